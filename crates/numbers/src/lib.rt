@@ -1,0 +1,1 @@
+// Primes and congruence: mathematics, in specs/ and proofs/.
