@@ -1,4 +1,4 @@
--- Congruence: two numbers are congruent modulo m where `%` leaves the same of both. Laws for any modulus; those for a prime are in Prime.
+-- Congruence: two numbers are congruent modulo m where `%` leaves the same of both. Laws for any modulus; those for a prime are in Euclid.
 -- A difference is written as a sum: the negative of b is m - b % m.
 -- Assumes nothing.
 use Prim.Native.Nat.{ℕ, zero, suc, _+_, _-_, _*_, _%_, _/_, _^_, _<_, _≤_, _∣_}

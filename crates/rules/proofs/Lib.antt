@@ -1,0 +1,4 @@
+-- What is proved of the rules, a file for each matter; other crates cite them as `Rattle.rules.proofs.NAME`.
+pub mod Field
+pub mod Multiplications
+pub mod Cases

@@ -1,0 +1,43 @@
+-- The kinds of sketch. Whatever differs between two widths of code is a field of the kind, and every rule and law is over it.
+-- Assumes nothing.
+use Prim.Native.Nat.{ℕ, _*_, _^_, _<_, _≤_}
+use lib.Dec.{lit<, lit≤}
+use Rattle.numbers.specs.Prime.{IsPrime, p32}
+use Rattle.numbers.proofs.Primes.{prime-32}
+
+-- Counts are of thirty-two bits at every width: they are kept modulo this number.
+abbrev pub counts : ℕ
+counts = 4294967296
+
+-- A kind has a prime modulus, a greatest threshold, and a number of bytes for a code, which are also those of a residue.
+-- The greatest threshold is below the modulus and below the counts; a residue fits its bytes, and a code is below twice the modulus.
+pub record Kind : Type 0 where
+  pub modulus : ℕ
+  pub greatest : ℕ
+  pub codeBytes : ℕ
+  pub prime : IsPrime modulus
+  pub odd : 2 < modulus
+  pub above : greatest < modulus
+  pub counted : greatest < counts
+  pub some-byte : 0 < codeBytes
+  pub fits : modulus ≤ 256 ^ codeBytes
+  pub twice : 256 ^ codeBytes ≤ 2 * modulus
+
+-- How many bits a code has, and an exponent.
+abbrev pub bits : Kind → ℕ
+bits K = 8 * K .codeBytes
+
+-- The kind of 32-bit codes.
+abbrev pub kind32 : Kind
+kind32 = record {
+  modulus = p32;
+  greatest = 32;
+  codeBytes = 4;
+  prime = prime-32;
+  odd = lit< tt;
+  above = lit< tt;
+  counted = lit< tt;
+  some-byte = lit< tt;
+  fits = lit≤ tt;
+  twice = lit≤ tt;
+}

@@ -1,0 +1,1 @@
+// Document 01 as definitions, in specs/, and what is proved of them, in proofs/.
