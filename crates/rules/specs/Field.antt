@@ -16,9 +16,12 @@ residue K c = c % K .modulus
 abbrev pub plus : Kind → ℕ → ℕ → ℕ
 plus K a b = (a + b) % K .modulus
 
--- The negative of b is the prime less what it leaves of b, so that a difference is right for every a and b.
+-- The difference of a and b modulo m. The negative of b is m less what m leaves of b, so that it is right for every a and b.
+abbrev pub difference : ℕ → ℕ → ℕ → ℕ
+difference m a b = (a + (m - b % m)) % m
+
 abbrev pub minus : Kind → ℕ → ℕ → ℕ
-minus K a b = (a + (K .modulus - b % K .modulus)) % K .modulus
+minus K a b = difference (K .modulus) a b
 
 abbrev pub negative : Kind → ℕ → ℕ
 negative K a = minus K 0 a

@@ -1,4 +1,9 @@
--- What is promised: the rules of codes, residues and sketches, over any kind. Definitions only.
+-- What is promised: the rules of codes, residues, sketches and packets, over any kind. Definitions only.
 pub mod Kind
 pub mod Field
+pub mod Sketch
+pub mod Decode
+pub mod Packet
+pub mod Calls
+pub mod History
 pub mod Cases

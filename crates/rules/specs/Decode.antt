@@ -1,0 +1,46 @@
+-- Coefficients, values, and the entries of a log that a sketch lists.
+-- Assumes nothing.
+use Prim.Native.Nat.{ℕ, zero, suc, _+_, _*_, _%_, _^_}
+use mathlib.Core.Bool.{Bool, cond}
+use mathlib.Core.List.{List, [], _∷_}
+use lib.Dec.{eqb}
+use lib.ListN.{length, getD}
+use Rattle.newton.specs.Polynomial.{lowerTerms}
+use Rattle.rules.specs.Kind.{Kind}
+use Rattle.rules.specs.Field.{residue, minus, negative, times, inverse}
+use Rattle.rules.specs.Sketch.{Sketch}
+
+-- The sums from the first on, times the coefficients from the newest on: s1 · a(i-1) + s2 · a(i-2) + .. + s(i-1) · a1.
+abbrev pub products : List ℕ → List ℕ → ℕ
+products [] cs = 0
+products (s ∷ ss) [] = 0
+products (s ∷ ss) (a ∷ cs) = s * a + products ss cs
+
+-- The first i coefficients, the newest first: ai = (-(s1 · a(i-1) + .. + s(i-1) · a1) - si) · the inverse of i.
+unfoldable pub newestFirst : Kind → List ℕ → ℕ → List ℕ
+newestFirst K sums zero = []
+newestFirst K sums (suc i) =
+    let cs = newestFirst K sums i in
+    times K (minus K (negative K (products sums cs)) (getD sums i 0)) (inverse K (suc i)) ∷ cs
+
+-- A list the other way round, before another.
+abbrev pub turned : List ℕ → List ℕ → List ℕ
+turned [] bs = bs
+turned (a ∷ cs) bs = turned cs (a ∷ bs)
+
+-- The coefficients a1 .. an of a sketch with the count n.
+unfoldable pub coefficients : Kind → Sketch → List ℕ
+coefficients K s = turned (newestFirst K (s .sums) (s .count)) []
+
+-- The value of a1 .. an at a code with residue x: x^n + a1 · x^(n-1) + .. + an.
+unfoldable pub evaluate : Kind → List ℕ → ℕ → ℕ
+evaluate K cs c = (residue K c ^ length cs + lowerTerms (residue K c) cs) % K .modulus
+
+-- The entries of a list that pass a test, as they stand, in their order, repeats kept.
+abbrev pub keep : (ℕ → Bool) → List ℕ → List ℕ
+keep test [] = []
+keep test (c ∷ log) = cond (test c) (c ∷ keep test log) (keep test log)
+
+-- What a sketch lists of a log: nothing for the count 0, whatever the sums; otherwise exactly the entries whose value is 0.
+unfoldable pub decode : Kind → Sketch → List ℕ → List ℕ
+decode K s log = cond (eqb (s .count) 0) [] (keep (λ c. eqb (evaluate K (coefficients K s) c) 0) log)
