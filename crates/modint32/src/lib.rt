@@ -1,5 +1,6 @@
 // The field of 32-bit codes modulo the greatest 32-bit prime: codes, residues, and their arithmetic.
 ghost use mathlib.Core.Path.{_≡_};
+ghost use Prim.Native.Nat.{_*_};
 ghost use Rattle.rules.specs.Kind.{kind32};
 ghost use Rattle.rules.specs.Field.{residue, plus, minus, negative, times, multiplications, inverse};
 ghost use Rattle.modint32.specs.Answers.{wrap, powered};
@@ -65,6 +66,14 @@ impl Residue {
     {
         let product = (self.0 as u64) * (rhs.0 as u64);
         Residue((product % (Residue::MODULUS as u64)) as u32)
+    }
+
+    // The product and a further term, reduced once: a step of Horner's rule.
+    pub fn mul_add(self, rhs: Residue, term: Code) -> Residue
+        ensures { λ r. ⌜ r ≡ wrap (plus kind32 (self .0 * rhs .0) (term .0)) ⌝ }
+    {
+        let sum = (self.0 as u64) * (rhs.0 as u64) + (term.0 as u64);
+        Residue((sum % (Residue::MODULUS as u64)) as u32)
     }
 
     // The exponent is halved until it is 0 or 1; on the way back the power is squared, and multiplied once more where the exponent is odd.
