@@ -2,3 +2,4 @@
 pub mod Field
 pub mod Multiplications
 pub mod Cases
+pub mod Each
