@@ -1,8 +1,8 @@
--- A change of each number of a list, told its place: its length, its numbers, their size, and its parts. And the sizes of a list's parts.
+-- A change of each number of a list, told its place: its length, its numbers, their size, and its parts. And tests of every number.
 -- Assumes nothing.
 use Prim.Native.Nat.{ℕ, zero, suc, _+_, _<_}
 use mathlib.Core.Path.{_≡_, refl, sym, _∙_, ap, ap₂}
-use mathlib.Core.Bool.{Bool, true, false, _&&_}
+use mathlib.Core.Bool.{Bool, true, false, _&&_, false≢true}
 use mathlib.Core.List.{List, [], _∷_}
 use native.Mathlib.Omega.{arith}
 use lib.Dec.{ltb}
@@ -66,6 +66,18 @@ each-same f g k (s ∷ ss) (t ∷ ts) e same =
     later : (j : ℕ) → suc k + j ≡ k + suc j
     later j = omega arith
 
+-- ---- two tests at once
+
+-- The first of two tests passes where both do.
+pub and-first : (a b : Bool) → a && b ≡ true → a ≡ true
+and-first true b e = refl
+and-first false b e = e
+
+-- So does the second.
+pub and-second : (a b : Bool) → a && b ≡ true → b ≡ true
+and-second true b e = e
+and-second false b e = absurd (false≢true e)
+
 -- ---- the size of every number
 
 module _ (p : ℕ) where
@@ -100,9 +112,4 @@ module _ (p : ℕ) where
   pub every-below : (k : ℕ) (ss : List ℕ) → every (λ (k s : ℕ). ltb s p) k ss ≡ true → AllBelow p ss
   unfolding every
   every-below k [] t = tt
-  every-below k (s ∷ ss) t = by-test (ltb s p) refl t (every-below (suc k) ss)
-    where
-      by-test : (small : Bool) → ltb s p ≡ small → small && every (λ (k s : ℕ). ltb s p) (suc k) ss ≡ true
-          → (every (λ (k s : ℕ). ltb s p) (suc k) ss ≡ true → AllBelow p ss) → AllBelow p (s ∷ ss)
-      by-test true e u later = (ltb-true s p e, later u)
-      by-test false e u later = absurd (let z : _≡_ {A = ℕ} 0 1 = cc in omega arith)
+  every-below k (s ∷ ss) t = (ltb-true s p (and-first (ltb s p) _ t), every-below (suc k) ss (and-second (ltb s p) _ t))

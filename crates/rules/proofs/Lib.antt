@@ -3,3 +3,4 @@ pub mod Field
 pub mod Multiplications
 pub mod Cases
 pub mod Each
+pub mod WellFormed
