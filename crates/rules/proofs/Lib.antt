@@ -2,3 +2,5 @@
 pub mod Field
 pub mod Multiplications
 pub mod Cases
+pub mod Each
+pub mod WellFormed
