@@ -4,3 +4,5 @@ pub mod Multiplications
 pub mod Cases
 pub mod Each
 pub mod WellFormed
+pub mod Recurrence
+pub mod Balance
