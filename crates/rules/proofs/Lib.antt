@@ -6,3 +6,5 @@ pub mod Each
 pub mod WellFormed
 pub mod Recurrence
 pub mod Balance
+pub mod Left
+pub mod Promise
