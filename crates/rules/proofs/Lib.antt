@@ -7,4 +7,5 @@ pub mod WellFormed
 pub mod Recurrence
 pub mod Balance
 pub mod Left
+pub mod Packet
 pub mod Promise

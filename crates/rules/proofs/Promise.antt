@@ -11,13 +11,15 @@ use borrow.Author.Tests.{eqb-true, le-leb}
 use Rattle.newton.proofs.Permutation.{count-permuted}
 use Rattle.rules.specs.Kind.{Kind}
 use Rattle.rules.specs.Field.{residue}
-use Rattle.rules.specs.Sketch.{WellFormed}
+use Rattle.rules.specs.Sketch.{code, WellFormed}
 use Rattle.rules.specs.Decode.{coefficients, evaluate, keep, decode}
+use Rattle.rules.specs.Packet.{packet}
 use Rattle.rules.specs.Calls as calls
 use Rattle.rules.specs.Calls.{given}
-use Rattle.rules.specs.History.{History, sketchOf, Allowed, net, Leaves}
+use Rattle.rules.specs.History.{History, carried, sketchOf, Allowed, net, Leaves}
 use Rattle.rules.proofs.Balance.{well-formed-history}
 use Rattle.rules.proofs.Left.{left-net, count-is-left, root-is-net, none-left, left-permuted}
+use Rattle.rules.proofs.Packet.{read-back, hint-read-back, write-read-back}
 
 -- Every history that is not refused ends in a well-formed sketch, so no call on it is refused by 12.
 pub well-formed : (K : Kind) (h : History) → Allowed K h → WellFormed K (sketchOf K h)
@@ -60,3 +62,18 @@ pub same-net : (K : Kind) (h g : History) (n : ℕ) → Leaves K h n → Leaves 
     → (r : ℕ) → net K h r ≡ net K g r
 same-net K h g n leaves others e r =
     sym (left-net K h n leaves r) ∙ count-permuted r (left-permuted K h g n leaves others e) ∙ left-net K g n others r
+
+-- A history is carried on by a packet: written with a last code x and its first m sums, at least one, and read again.
+pub carried-on : (K : Kind) (h : History) → Allowed K h → (x : ℕ) → sketchOf K h .last ≡ code x → (m : ℕ) → 1 ≤ m
+    → calls.read K (packet K (sketchOf K h) x m) ≡ given (sketchOf K (carried h m))
+carried-on K h a x last m l = read-back K (sketchOf K h) (well-formed K h a) x last m l
+
+-- So it is by whatever the call of writing with a hint of at least 1 gives.
+pub carried-on-by-hint : (K : Kind) (h : History) → Allowed K h → (m room : ℕ) (bs : List ℕ) → 1 ≤ m
+    → calls.writeWithHint K true (sketchOf K h) m room ≡ given bs → calls.read K bs ≡ given (sketchOf K (carried h m))
+carried-on-by-hint K h a m room bs l e = hint-read-back K (sketchOf K h) (well-formed K h a) m room bs l e
+
+-- What the call of writing without a hint gives is read as the history's sketch itself.
+pub carried-whole : (K : Kind) (h : History) → Allowed K h → (room : ℕ) (bs : List ℕ) → calls.write K true (sketchOf K h) room ≡ given bs
+    → calls.read K bs ≡ given (sketchOf K h)
+carried-whole K h a room bs e = write-read-back K (sketchOf K h) (well-formed K h a) room bs e
