@@ -86,11 +86,13 @@ module _ (p : ℕ) where
   zeros-below l zero = tt
   zeros-below l (suc n) = (l, zeros-below l n)
 
+  -- The first numbers of a list stay below p.
   pub take-below : (n : ℕ) (ss : List ℕ) → AllBelow p ss → AllBelow p (take n ss)
   take-below zero ss below = tt
   take-below (suc n) [] below = tt
   take-below (suc n) (s ∷ ss) below = (below .0, take-below n ss (below .1))
 
+  -- So do the numbers after them.
   pub drop-below : (n : ℕ) (ss : List ℕ) → AllBelow p ss → AllBelow p (drop n ss)
   drop-below zero ss below = below
   drop-below (suc n) [] below = tt

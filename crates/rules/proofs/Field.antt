@@ -8,7 +8,6 @@ use native.Mathlib.Nat.{mod-lt, mod-mod, mod-eq-of-lt, mod-eq-sub-mod, add-mod, 
 use native.Mathlib.Omega.{arith}
 use lib.Dec.{T, eqb→eq}
 use lib.ListN.{length, getD}
-use Rattle.numbers.specs.Table.{every}
 use Rattle.numbers.proofs.Congruence.{mul-mod, mul-mod-right, pow-mod, subtract-then-add}
 use Rattle.numbers.proofs.Inverse.{inverse-is-power, inverse-of-zero}
 use Rattle.numbers.proofs.Power.{pow-one, power-mod, power-even, power-odd}

@@ -33,6 +33,7 @@ module _ (K : Kind) where
     last-fits = refl;
   }
 
+  -- An insertion keeps a sketch well formed.
   pub insert-well-formed : (s : Sketch) (c : ℕ) → WellFormed K s → WellFormed K (insert K s c)
   unfolding insert
   insert-well-formed s c w = record {
@@ -52,6 +53,7 @@ module _ (K : Kind) where
       by-test true = refl
       by-test false = h
 
+  -- A removal keeps a sketch well formed.
   pub remove-well-formed : (s : Sketch) (c : ℕ) → WellFormed K s → WellFormed K (remove K s c)
   unfolding remove
   remove-well-formed s c w = record {
@@ -63,6 +65,7 @@ module _ (K : Kind) where
     last-fits = last-without-fits (s .last) c (w .last-fits);
   }
 
+  -- The difference of two well-formed sketches is well formed.
   pub subtract-well-formed : (s o : Sketch) → WellFormed K s → WellFormed K o → WellFormed K (subtract K s o)
   unfolding subtract
   subtract-well-formed s o w v = record {
