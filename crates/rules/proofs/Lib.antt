@@ -11,3 +11,5 @@ pub mod Left
 pub mod Packet
 pub mod Promise
 pub mod Cases
+pub mod Desk
+pub mod Text

@@ -7,3 +7,6 @@ pub mod Packet
 pub mod Calls
 pub mod History
 pub mod Cases
+pub mod Lines
+pub mod Desk
+pub mod Text
