@@ -8,13 +8,12 @@ use native.Mathlib.Nat.{mod-lt, mod-mod, mod-eq-of-lt, mod-eq-sub-mod, add-mod, 
 use native.Mathlib.Omega.{arith}
 use lib.Dec.{T, eqb→eq}
 use lib.ListN.{length, getD}
-use Rattle.numbers.specs.Table.{every}
 use Rattle.numbers.proofs.Congruence.{mul-mod, mul-mod-right, pow-mod, subtract-then-add}
 use Rattle.numbers.proofs.Inverse.{inverse-is-power, inverse-of-zero}
 use Rattle.numbers.proofs.Power.{pow-one, power-mod, power-even, power-odd}
 use Rattle.numbers.proofs.Table.{at-entry}
-use Rattle.rules.specs.Kind.{Kind}
-use Rattle.rules.specs.Field.{residue, plus, minus, times, power, inverse, inverseAt, inversesRight}
+use Rattle.rules.specs.Kind.{Kind, counts}
+use Rattle.rules.specs.Field.{residue, plus, difference, minus, times, power, inverse, inverseAt, inversesRight}
 
 module _ (K : Kind) where
   pub positive : 0 < K .modulus
@@ -113,3 +112,7 @@ module _ (K : Kind) where
   -- The inverse of i + 1 may be taken of what the prime leaves of i, and 1.
   pub inverse-past : (i : ℕ) → inverse K (plus K (residue K (residue K i)) (residue K 1)) ≡ inverseAt K i
   inverse-past i = ap (inverse K) (plus-residues (residue K i) 1 ∙ mod-add-mod i (K .modulus) 1) ∙ inverse-residue (i + 1)
+
+-- The wrapped difference of two counts, from what the wrapping subtraction of 32 bits says of it.
+pub count-down : (a b r : ℕ) → (r + b) % 2 ^ 32 ≡ a → r < 2 ^ 32 → b < 2 ^ 32 → r ≡ difference counts a b
+count-down a b r e h l = omega arith

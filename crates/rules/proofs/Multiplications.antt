@@ -1,14 +1,12 @@
 -- The number of multiplications of the power: its step, its size, and its closed form from the exponent's digits.
 -- Assumes nothing.
-use Prim.Native.Nat.{ℕ, zero, suc, _+_, _-_, _*_, _^_, _/_, _%_, _≤_, _<_, zero-le}
-use mathlib.Core.Path.{_≡_, refl, ap, _∙_, sym}
-use mathlib.Core.Bool.{Bool, true, false, cond}
+use Prim.Native.Nat.{ℕ, zero, suc, _+_, _-_, _^_, _/_, _%_, _≤_, _<_, zero-le}
+use mathlib.Core.Path.{_≡_, refl, ap, _∙_}
 use native.Mathlib.Nat.{not-suc-le-zero, le-refl, div-add-mod', pow-suc, zero-lt-suc}
 use native.Mathlib.Decide.{le-ind}
 use native.Mathlib.Omega.{arith}
 use lib.Arith.{half-le}
 use lib.Count.{leadingZeros, leading-of-zero, leading-top, ones, ones-step, onesIn}
-use lib.Dec.{eqb}
 use borrow.Author.Tests.{ne-eqb}
 use Rattle.rules.specs.Kind.{Kind, bits}
 use Rattle.rules.specs.Field.{multiplicationsWithin, multiplications, multiplicationsByDigits}

@@ -8,7 +8,7 @@ use Rattle.newton.specs.Members.{count}
 use Rattle.rules.specs.Kind.{Kind}
 use Rattle.rules.specs.Field.{residue}
 use Rattle.rules.specs.Sketch as sketch
-use Rattle.rules.specs.Sketch.{Sketch}
+use Rattle.rules.specs.Sketch.{Sketch, Last, nothing, code}
 
 -- A sketch is fresh, or comes from others by an insertion, a removal, one of the two subtractions, or by being carried: written with at most m sums
 -- and read again.
@@ -29,14 +29,20 @@ sketchOf K (subAssign h g) = sketch.subtract K (sketchOf K h) (sketchOf K g)
 sketchOf K (sub h g) = sketch.subtract K (sketchOf K h) (sketchOf K g)
 sketchOf K (carried h m) = sketch.cut (sketchOf K h) m
 
--- None of its calls is refused: thresholds are in range, those of a subtraction in place agree, and at least one sum is carried.
+-- There is a last code.
+abbrev pub HasLast : Last → Type 0
+HasLast nothing = ⊥
+HasLast (code x) = Unit {0}
+
+-- None of its calls is refused: thresholds are in range, those of a subtraction in place agree, and a sketch that is carried has a last code and
+-- carries at least one sum.
 abbrev pub Allowed : Kind → History → Type 0
 Allowed K (fresh threshold) = (1 ≤ threshold) × (threshold ≤ K .greatest)
 Allowed K (insert h c) = Allowed K h
 Allowed K (remove h c) = Allowed K h
 Allowed K (subAssign h g) = Allowed K h × Allowed K g × (sketchOf K h .threshold ≡ sketchOf K g .threshold)
 Allowed K (sub h g) = Allowed K h × Allowed K g
-Allowed K (carried h m) = Allowed K h × (1 ≤ m)
+Allowed K (carried h m) = Allowed K h × (1 ≤ m) × HasLast (sketchOf K h .last)
 
 -- The residues put in and taken out. Those of a sketch that is subtracted change sides.
 abbrev mutual
