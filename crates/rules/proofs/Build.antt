@@ -7,13 +7,13 @@ use native.Mathlib.Nat.{mod-mod, zero-mod, add-comm}
 use native.Mathlib.Numerals.{add-one}
 use native.Mathlib.Omega.{arith}
 use lib.ListN.{length, getD, take, drop, set, length-append, length-set, List·getD-append}
-use lib.Seq.{take-suc, take-all, take-at, length-take-le, drop-cons, set-at, getD-take}
+use lib.Seq.{take-suc, take-all, take-at, length-take-le, drop-cons, set-at, drop-set-lt, getD-take}
 use Rattle.numbers.proofs.Binomial.{sumTo}
 use Rattle.numbers.proofs.Congruence.{add-congruent, mul-mod-right}
 use Rattle.rules.specs.Kind.{Kind}
 use Rattle.rules.specs.Field.{residue, plus, minus, negative, times, inverse}
 use Rattle.rules.specs.Sketch.{Sketch}
-use Rattle.rules.specs.Decode.{coefficients}
+use Rattle.rules.specs.Decode.{newestFirst, coefficients}
 use Rattle.rules.proofs.Field.{minus-reduced}
 use Rattle.rules.proofs.Recurrence.{coefficients-length, coefficient-at, first-coefficient}
 
@@ -51,62 +51,77 @@ sum-agrees f g (suc n) same = ap₂ _+_ (sum-agrees f g n (λ k l. same k (omega
 
 -- ---- the coefficients one after the other
 
--- The first i coefficients stand at the front of the buffer; the rest of it is as it was.
-pub record BuiltSoFar (K : Kind) (s : Sketch) (old now : List ℕ) (i : ℕ) : Type 0 where
-  pub within : i ≤ s .count
-  pub room : s .count ≤ length old
+-- The sketch has the count n, and its first n sums stand in these places.
+pub record SumsIn (s : Sketch) (places : List ℕ) (n : ℕ) : Type 0 where
+  pub counted : s .count ≡ n
+  pub same : (j : ℕ) → j < n → getD places j 0 ≡ getD (s .sums) j 0
+
+-- The first i of n coefficients stand at the front of the buffer; the rest of it is as it was.
+pub record BuiltSoFar (K : Kind) (places : List ℕ) (n : ℕ) (old now : List ℕ) (i : ℕ) : Type 0 where
+  pub within : i ≤ n
+  pub room : n ≤ length old
   pub long : length now ≡ length old
-  pub front : now ≡ take i (coefficients K s) ++ drop i old
+  pub front : (s : Sketch) → SumsIn s places n → now ≡ take i (coefficients K s) ++ drop i old
 
-module _ (K : Kind) (s : Sketch) {old : List ℕ} where
+module _ (K : Kind) {places : List ℕ} {n : ℕ} {old : List ℕ} where
   -- Where the first i stand, the next one is stored.
-  stored : {now : List ℕ} {i v : ℕ} → BuiltSoFar K s old now i → i < s .count → v ≡ getD (coefficients K s) i 0 → BuiltSoFar K s old (set now i v) (i + 1)
-  stored {now} {i} {v} b l e =
-      let many = coefficients-length K s in
-      let more : i < length (coefficients K s) = omega arith in
-      let here : i < length old = omega (arith, b .room) in
-      record {
-        within = omega arith;
-        room = b .room;
-        long = length-set now i v ∙ b .long;
-        front = rw (
-          b .front,
-          e,
-          add-one,
-          drop-cons old i 0,
-          set-at (take i (coefficients K s)) (getD old i 0) (drop (suc i) old) (getD (coefficients K s) i 0) i
-              (length-take-le i (coefficients K s) (omega arith)),
-          take-suc (coefficients K s) i 0,
-          append-assoc,
-        );
-      }
+  stored : {now : List ℕ} {i v : ℕ} → BuiltSoFar K places n old now i → i < n → ((s : Sketch) → SumsIn s places n → v ≡ getD (coefficients K s) i 0)
+      → BuiltSoFar K places n old (set now i v) (i + 1)
+  stored {now} {i} {v} b l next = record {
+    within = omega arith;
+    room = b .room;
+    long = length-set now i v ∙ b .long;
+    front = λ s t.
+        let cs = coefficients K s in
+        let many = coefficients-length K s in
+        let more : i < length cs = omega (arith, t .counted) in
+        let here : i < length old = omega (arith, b .room) in
+        rw (b .front s t, next s t, add-one, drop-cons old i 0, set-at (take i cs) (getD old i 0) (drop (suc i) old) (getD cs i 0) i (length-take-le i cs (omega arith)), take-suc cs i 0, append-assoc);
+  }
 
-  -- The first coefficient is the negative of the first sum.
-  pub built-start : {v : ℕ} → 1 ≤ s .count → s .count ≤ length old → v ≡ negative K (getD (s .sums) 0 0) → BuiltSoFar K s old (set old 0 v) 1
-  built-start {v} l room e =
-      stored {now = old} {i = 0} (record { within = zero-le; room = room; long = refl; front = refl }) l (e ∙ sym (first-coefficient K s l))
-
-  -- The next one, from the sum of products over the places of the sums and the coefficients that stand in the buffer.
-  pub built-turn : {now : List ℕ} {i v : ℕ} (places : List ℕ) → BuiltSoFar K s old now i → i < s .count
-      → ((j : ℕ) → j < s .count → getD places j 0 ≡ getD (s .sums) j 0)
+  -- The next one, from the sum of the products of the sums before it and the coefficients that stand in the buffer.
+  pub built-turn : {now : List ℕ} {i v : ℕ} → BuiltSoFar K places n old now i → i < n
       → v ≡ times K (minus K (negative K (sumTo (λ (j : ℕ). getD places j 0 * getD (take i now) (i - j - 1) 0) i % K .modulus)) (getD places i 0)) (inverse K (i + 1))
-      → BuiltSoFar K s old (set now i v) (i + 1)
-  built-turn {now} {i} {v} places b l same e =
-      stored b l
-      (e ∙ ap₂ (λ (a b : ℕ). times K (minus K a b) (inverse K (i + 1))) (minus-reduced K 0 _ ∙ ap (negative K) sums) (same i l) ∙ sym (coefficient-at K s i l))
+      → BuiltSoFar K places n old (set now i v) (i + 1)
+  built-turn {now} {i} {v} b l e =
+      stored b l λ s t.
+      let h : i < s .count = omega (arith, t .counted) in
+      e ∙ ap₂ (λ (x y : ℕ). times K (minus K x y) (inverse K (i + 1))) (minus-reduced K 0 _ ∙ ap (negative K) (sums s t h)) (t .same i l) ∙ sym (coefficient-at K s i h)
     where
-      written : take i now ≡ take i (coefficients K s)
-      written =
+      in-buffer : (s : Sketch) → SumsIn s places n → i < s .count → take i now ≡ take i (coefficients K s)
+      in-buffer s t h =
           let many = coefficients-length K s in
-          rw (b .front) (take-at (take i (coefficients K s)) (drop i old) i (length-take-le i (coefficients K s) (omega arith)))
+          rw (b .front s t) (take-at (take i (coefficients K s)) (drop i old) i (length-take-le i (coefficients K s) (omega arith)))
 
-      sums : sumTo (λ (j : ℕ). getD places j 0 * getD (take i now) (i - j - 1) 0) i
+      sums : (s : Sketch) → SumsIn s places n → i < s .count → sumTo (λ (j : ℕ). getD places j 0 * getD (take i now) (i - j - 1) 0) i
           ≡ sumTo (λ (j : ℕ). getD (s .sums) j 0 * getD (coefficients K s) (i - j - 1) 0) i
-      sums = sum-agrees _ _ i (λ j u. ap₂ _*_ (same j (omega arith)) (rw written (getD-take i (coefficients K s) (i - j - 1) 0 (omega arith))))
+      sums s t h =
+          sum-agrees _ _ i
+          (λ j u. ap₂ _*_ (t .same j (omega arith)) (rw (in-buffer s t h) (getD-take i (coefficients K s) (i - j - 1) 0 (omega arith))))
 
-  -- With the last one they all stand there.
-  pub built-done : {now : List ℕ} {i : ℕ} → BuiltSoFar K s old now i → s .count ≤ i → now ≡ coefficients K s ++ drop (s .count) old
-  built-done {now} {i} b l =
-      let many = coefficients-length K s in
-      let e : i ≡ s .count = omega arith in
-      b .front ∙ rw (e, take-all (s .count) (coefficients K s) (omega arith))
+-- The first coefficient is the negative of the first sum; the buffer is as it is from then on.
+pub built-start : (K : Kind) {places : List ℕ} {n v : ℕ} (old : List ℕ) → 1 ≤ n → n ≤ length old → v ≡ negative K (getD places 0 0) → BuiltSoFar K places n (set old 0 v) (set old 0 v) 1
+built-start K {places} {n} {v} old l room e = record {
+  within = l;
+  room = rw length-set room;
+  long = refl;
+  front = λ s t. first .front s t ∙ rw (drop-set-lt 1 old 0 v (omega arith));
+}
+  where
+    first : BuiltSoFar K places n old (set old 0 v) 1
+    first =
+        stored K {now = old} {i = 0} (record { within = zero-le; room = room; long = refl; front = λ s t. refl }) l
+        (λ s t. e ∙ ap (negative K) (t .same 0 l) ∙ sym (first-coefficient K s (omega (arith, t .counted))))
+
+-- With the last one they all stand there.
+pub built-done : (K : Kind) {places : List ℕ} {n i : ℕ} {now : List ℕ} (old : List ℕ) (v : ℕ) → BuiltSoFar K places n (set old 0 v) now i → 1 ≤ n → n ≤ i
+    → (s : Sketch) → SumsIn s places n → now ≡ coefficients K s ++ drop n old
+built-done K {places} {n} {i} {now} old v b l u s t =
+    let many = coefficients-length K s in
+    let e : i ≡ n = omega arith in
+    b .front s t ∙ rw (e, take-all n (coefficients K s) (omega (arith, t .counted)), drop-set-lt n old 0 v l)
+
+-- With the count 0 there is none, and the buffer stays.
+pub built-none : (K : Kind) (s : Sketch) (old : List ℕ) → s .count ≡ 0 → old ≡ coefficients K s ++ drop (s .count) old
+unfolding coefficients newestFirst
+built-none K s old e = rw e

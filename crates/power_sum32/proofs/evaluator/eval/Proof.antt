@@ -3,7 +3,7 @@
 use mathlib.Core.Path.{_∙_, sym, ap}
 use native.Mathlib.Omega.{arith}
 use borrow.Author.Needs.{needs}
-use borrow.Author.Tests.{not-true, not-false}
+use Rattle.rules.proofs.Tests.{passed, failed}
 use Rattle.rules.specs.Kind.{kind32}
 use Rattle.rules.proofs.Evaluate.{evaluate-residue}
 use Rattle.rules.proofs.Outcomes.{evaluate-none, evaluate-large, evaluate-given}
@@ -20,14 +20,14 @@ unfolding evalOf
 returns-2 c =
     let b = c .before .before in
     let a = b .before .before .before .args in
-    rw (c .zero2 .ensures, evaluate-large kind32 (a .coeffs .now) (a .x .0) (omega (arith, b .before .if1 .left)) (sym (b .all-below .ensures) ∙ not-true _ (c .before .if2 .taken)))
+    rw (c .zero2 .ensures, evaluate-large kind32 (a .coeffs .now) (a .x .0) (omega (arith, b .before .if1 .left)) (failed (b .all-below .ensures) (c .before .if2 .taken)))
 
 returns-3 : tie.Need-returns-3
 unfolding evalOf
 returns-3 c =
     let b = c .before .before .before in
     let a = b .before .before .before .args in
-    rw (c .value .ensures, c .before .reduce .ensures, evaluate-residue kind32 (a .coeffs .now) (a .x .0), evaluate-given kind32 (a .coeffs .now) (a .x .0) (omega (arith, b .before .if1 .left)) (sym (b .all-below .ensures) ∙ not-false _ (c .before .before .if2 .left)))
+    rw (c .value .ensures, c .before .reduce .ensures, evaluate-residue kind32 (a .coeffs .now) (a .x .0), evaluate-given kind32 (a .coeffs .now) (a .x .0) (omega (arith, b .before .if1 .left)) (passed (b .all-below .ensures) (c .before .before .if2 .left)))
 
 pub eval-spec : {M : Type 1} → statement M
 eval-spec =
