@@ -18,7 +18,7 @@ use modint32::Code;
 use modint32::Residue;
 use modint32::precompute;
 
-// The sum of s1 · ai + s2 · a(i-1) + .. + si · a1, where `coeffs` begins with a1 .. ai.
+// The sum s1 · ai + s2 · a(i-1) + .. + si · a1 modulo the prime, where `coeffs` begins with a1 .. ai.
 fn newton_sum(sums: [Residue; 32], coeffs: &[u32], i: usize) -> Residue
     requires { ⌜ (i ≤ 32) × (i ≤ length (now coeffs)) ⌝ }
     ensures { λ r. ⌜ r ≡ wrap (sumTo (λ (j : ℕ). getD (map val sums) j 0 * getD (now (coeffs .entry)) (i - j - 1) 0) i % kind32 .modulus) ⌝ }
@@ -32,7 +32,7 @@ fn newton_sum(sums: [Residue; 32], coeffs: &[u32], i: usize) -> Residue
     sum
 }
 
-// The entries of the log at which the value is 0, to the front of `out`; answers how many.
+// The core of `decode_with_log`: the entries of the log at which the value is 0 go to the front of `out`. Answers how many there are.
 fn listed(coeffs: &[u32], log: &[u32], out: &mut [u32]) -> usize
     requires { ⌜ (1 ≤ length (now coeffs)) × (length (now log) ≤ length (now out)) ⌝ }
     ensures many { λ r. ⌜ r ≡ length (keep (λ (c : ℕ). eqb (evaluate kind32 (now (coeffs .entry)) c) 0) (now (log .entry))) ⌝ }
@@ -50,7 +50,7 @@ fn listed(coeffs: &[u32], log: &[u32], out: &mut [u32]) -> usize
     n
 }
 
-fn number(refusal: u32, value: usize) -> Number
+fn number_with(refusal: u32, value: usize) -> Number
     ensures { λ r. ⌜ r ≡ record { refusal = refusal; value = value } ⌝ }
 {
     Number { refusal, value }
@@ -82,17 +82,17 @@ impl PowerSumQuackU32 {
         ensures buffer { λ r. ⌜ now (coeffs .exit) ≡ written (coefficientsOf self (length (now (coeffs .entry)))) (now (coeffs .entry)) ⌝ }
     {
         if !self.well_formed() {
-            return number(12, 0);
+            return number_with(12, 0);
         }
         let n = self.count as usize;
         if n > self.threshold {
-            return number(4, 0);
+            return number_with(4, 0);
         }
         if n > coeffs.len() {
-            return number(5, 0);
+            return number_with(5, 0);
         }
         self.coefficients(coeffs);
-        number(0, n)
+        number_with(0, n)
     }
 
     pub fn decode_with_log(self, log: &[u32], out: &mut [u32]) -> Number
@@ -100,21 +100,21 @@ impl PowerSumQuackU32 {
         ensures buffer { λ r. ⌜ now (out .exit) ≡ written (decodeOf self (now (log .entry)) (length (now (out .entry)))) (now (out .entry)) ⌝ }
     {
         if !self.well_formed() {
-            return number(12, 0);
+            return number_with(12, 0);
         }
         let n = self.count as usize;
         if n > self.threshold {
-            return number(4, 0);
+            return number_with(4, 0);
         }
         if log.len() > out.len() {
-            return number(5, 0);
+            return number_with(5, 0);
         }
         if n == 0 {
-            return number(0, 0);
+            return number_with(0, 0);
         }
         let mut coeffs = [0u32; 32];
         self.coefficients(&mut coeffs[..n]);
         let found = listed(&coeffs[..n], log, out);
-        number(0, found)
+        number_with(0, found)
     }
 }

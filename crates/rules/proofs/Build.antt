@@ -2,11 +2,11 @@
 -- Assumes nothing.
 use Prim.Native.Nat.{ℕ, zero, suc, _+_, _-_, _*_, _%_, _≤_, _<_, zero-le}
 use mathlib.Core.Path.{_≡_, refl, sym, _∙_, ap, ap₂}
-use mathlib.Core.List.{List, [], _∷_, _++_, append-assoc}
+use mathlib.Core.List.{List, _++_, append-assoc, append-nil}
 use native.Mathlib.Nat.{mod-mod, zero-mod, add-comm}
 use native.Mathlib.Numerals.{add-one}
 use native.Mathlib.Omega.{arith}
-use lib.ListN.{length, getD, take, drop, set, length-append, length-set, List·getD-append}
+use lib.ListN.{length, getD, take, drop, set, length-append, length-set, drop-of-length-le}
 use lib.Seq.{take-suc, take-all, take-at, length-take-le, drop-cons, set-at, drop-set-lt, getD-take}
 use Rattle.numbers.proofs.Binomial.{sumTo}
 use Rattle.numbers.proofs.Congruence.{add-congruent, mul-mod-right}
@@ -45,6 +45,7 @@ module _ (K : Kind) {f : ℕ → ℕ} {i : ℕ} where
       let e : j ≡ i = omega arith in
       s .value ∙ ap (λ (n : ℕ). sumTo f n % K .modulus) e
 
+-- Two sums are equal where their terms are.
 sum-agrees : (f g : ℕ → ℕ) (n : ℕ) → ((k : ℕ) → k < n → f k ≡ g k) → sumTo f n ≡ sumTo g n
 sum-agrees f g zero same = refl
 sum-agrees f g (suc n) same = ap₂ _+_ (sum-agrees f g n (λ k l. same k (omega arith))) (same n (omega arith))
@@ -76,7 +77,8 @@ module _ (K : Kind) {places : List ℕ} {n : ℕ} {old : List ℕ} where
         let many = coefficients-length K s in
         let more : i < length cs = omega (arith, t .counted) in
         let here : i < length old = omega (arith, b .room) in
-        rw (b .front s t, next s t, add-one, drop-cons old i 0, set-at (take i cs) (getD old i 0) (drop (suc i) old) (getD cs i 0) i (length-take-le i cs (omega arith)), take-suc cs i 0, append-assoc);
+        let past = length-take-le i cs (omega arith) in
+        rw (b .front s t, next s t, add-one, drop-cons old i 0, set-at (take i cs) (getD old i 0) (drop (suc i) old) (getD cs i 0) i past, take-suc cs i 0, append-assoc);
   }
 
   -- The next one, from the sum of the products of the sums before it and the coefficients that stand in the buffer.
@@ -99,8 +101,9 @@ module _ (K : Kind) {places : List ℕ} {n : ℕ} {old : List ℕ} where
           sum-agrees _ _ i
           (λ j u. ap₂ _*_ (t .same j (omega arith)) (rw (in-buffer s t h) (getD-take i (coefficients K s) (i - j - 1) 0 (omega arith))))
 
--- The first coefficient is the negative of the first sum; the buffer is as it is from then on.
-pub built-start : (K : Kind) {places : List ℕ} {n v : ℕ} (old : List ℕ) → 1 ≤ n → n ≤ length old → v ≡ negative K (getD places 0 0) → BuiltSoFar K places n (set old 0 v) (set old 0 v) 1
+-- The first coefficient is the negative of the first sum; what the buffer holds with it is what later places are compared with.
+pub built-start : (K : Kind) {places : List ℕ} {n v : ℕ} (old : List ℕ) → 1 ≤ n → n ≤ length old → v ≡ negative K (getD places 0 0)
+    → BuiltSoFar K places n (set old 0 v) (set old 0 v) 1
 built-start K {places} {n} {v} old l room e = record {
   within = l;
   room = rw length-set room;
@@ -125,3 +128,20 @@ built-done K {places} {n} {i} {now} old v b l u s t =
 pub built-none : (K : Kind) (s : Sketch) (old : List ℕ) → s .count ≡ 0 → old ≡ coefficients K s ++ drop (s .count) old
 unfolding coefficients newestFirst
 built-none K s old e = rw e
+
+-- ---- the part of the first places of a buffer, lent for the coefficients
+
+module _ (K : Kind) (s : Sketch) (buffer part : List ℕ) (e : part ≡ coefficients K s ++ drop (s .count) (take (s .count) buffer)) where
+  -- With the part back, the buffer has as many places as there are coefficients.
+  pub built-part-long : s .count ≤ length (part ++ drop (s .count) buffer)
+  built-part-long = let many = coefficients-length K s in rw (e, length-append, length-append) (omega arith)
+
+  -- So its first part, taken again, is as long as there are coefficients.
+  pub built-part-count : s .count ≡ length (take (s .count) (part ++ drop (s .count) buffer))
+  built-part-count = sym (length-take-le (s .count) (part ++ drop (s .count) buffer) built-part-long)
+
+  -- That part is the coefficients.
+  pub built-part : s .count ≤ length buffer → take (s .count) (part ++ drop (s .count) buffer) ≡ coefficients K s
+  built-part l =
+      let none = drop-of-length-le (take (s .count) buffer) {i = s .count} (omega (arith, length-take-le (s .count) buffer l)) in
+      rw (e, none, append-nil) (take-at (coefficients K s) (drop (s .count) buffer) (s .count) (coefficients-length K s))

@@ -1,6 +1,6 @@
 -- The value of coefficients by Horner's rule: a loop over them, begun with the sum of the point and the first.
 -- Assumes nothing.
-use Prim.Native.Nat.{ℕ, suc, _+_, _*_, _%_, _≤_, _<_}
+use Prim.Native.Nat.{ℕ, _+_, _*_, _%_, _≤_, _<_}
 use mathlib.Core.Path.{_≡_, refl, sym, _∙_, ap}
 use mathlib.Core.List.{List, _∷_}
 use native.Mathlib.Nat.{mul-one, mod-mod, mul-comm}

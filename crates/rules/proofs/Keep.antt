@@ -6,9 +6,13 @@ use mathlib.Core.Bool.{Bool, true, false, cond}
 use mathlib.Core.List.{List, [], _∷_, _++_, append-assoc, append-nil}
 use native.Mathlib.Numerals.{add-one}
 use native.Mathlib.Omega.{arith}
+use lib.Dec.{eqb}
 use lib.ListN.{length, getD, take, drop, set, length-append, length-set}
 use lib.Seq.{take-suc, take-all, drop-cons, set-at}
-use Rattle.rules.specs.Decode.{keep}
+use borrow.Author.Tests.{eq-eqb, ne-eqb}
+use Rattle.rules.specs.Kind.{Kind}
+use Rattle.rules.specs.Sketch.{Sketch}
+use Rattle.rules.specs.Decode.{coefficients, evaluate, keep, decode}
 
 module _ (test : ℕ → Bool) where
   -- What is kept of two lists one after the other.
@@ -71,3 +75,16 @@ module _ {test : ℕ → Bool} {log old : List ℕ} where
   kept-done {now} {n} {i} k l =
       let whole : take i log ≡ log = take-all i log l in
       (sym (rw whole at (k .many)), rw whole at (k .front))
+
+-- ---- what a sketch lists
+
+module _ (K : Kind) (s : Sketch) (log : List ℕ) where
+  -- With the count 0 it lists nothing.
+  pub decode-none : s .count ≡ 0 → decode K s log ≡ []
+  unfolding decode
+  decode-none e = rw (eq-eqb (s .count) 0 e)
+
+  -- With any other count, what is kept by the value of its coefficients.
+  pub decode-kept : (cs : List ℕ) → (s .count ≡ 0 → ⊥) → cs ≡ coefficients K s → keep (λ (c : ℕ). eqb (evaluate K cs c) 0) log ≡ decode K s log
+  unfolding decode
+  decode-kept cs some e = rw (ne-eqb (s .count) 0 some) (ap (λ (l : List ℕ). keep (λ (c : ℕ). eqb (evaluate K l c) 0) log) e)

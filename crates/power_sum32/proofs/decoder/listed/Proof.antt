@@ -7,7 +7,7 @@ use borrow.Author.Needs.{needs}
 use borrow.Author.Tests.{eq-eqb, ne-eqb}
 use lib.Dec.{eqb}
 use lib.ListN.{length, getD}
-use Rattle.modint32.specs.Answers.{val, wrap}
+use Rattle.modint32.specs.Answers.{val}
 use Rattle.rules.specs.Kind.{kind32}
 use Rattle.rules.specs.Decode.{evaluate}
 use Rattle.rules.proofs.Evaluate.{evaluate-residue}

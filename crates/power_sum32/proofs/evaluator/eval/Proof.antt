@@ -1,10 +1,9 @@
 -- The two tests in the order of the refusals, and then the value at the code's residue.
 -- Assumes nothing.
-use mathlib.Core.Path.{_∙_, sym, ap}
 use native.Mathlib.Omega.{arith}
 use borrow.Author.Needs.{needs}
-use Rattle.rules.proofs.Tests.{passed, failed}
 use Rattle.rules.specs.Kind.{kind32}
+use Rattle.rules.proofs.Tests.{passed, failed}
 use Rattle.rules.proofs.Evaluate.{evaluate-residue}
 use Rattle.rules.proofs.Outcomes.{evaluate-none, evaluate-large, evaluate-given}
 use Rattle.power_sum32.specs.Answers.{evalOf}
@@ -27,7 +26,12 @@ unfolding evalOf
 returns-3 c =
     let b = c .before .before .before in
     let a = b .before .before .before .args in
-    rw (c .value .ensures, c .before .reduce .ensures, evaluate-residue kind32 (a .coeffs .now) (a .x .0), evaluate-given kind32 (a .coeffs .now) (a .x .0) (omega (arith, b .before .if1 .left)) (passed (b .all-below .ensures) (c .before .before .if2 .left)))
+    rw (
+      c .value .ensures,
+      c .before .reduce .ensures,
+      evaluate-residue kind32 (a .coeffs .now) (a .x .0),
+      evaluate-given kind32 (a .coeffs .now) (a .x .0) (omega (arith, b .before .if1 .left)) (passed (b .all-below .ensures) (c .before .before .if2 .left)),
+    )
 
 pub eval-spec : {M : Type 1} → statement M
 eval-spec =

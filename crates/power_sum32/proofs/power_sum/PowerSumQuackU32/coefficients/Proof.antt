@@ -1,7 +1,7 @@
 -- The first i coefficients stand in the buffer, and then one more.
 -- Assumes nothing.
-use Prim.Native.Nat.{ℕ, _-_, _≤_}
-use mathlib.Core.Path.{_≡_, refl, sym, ap, _∙_}
+use Prim.Native.Nat.{_-_, _≤_}
+use mathlib.Core.Path.{refl, sym, ap, _∙_}
 use mathlib.Core.List.{map}
 use native.Mathlib.Omega.{arith}
 use borrow.Author.Needs.{needs}
@@ -9,7 +9,7 @@ use lib.ListN.{length-set, List·getD-map}
 use lib.Seq.{length-take-le, getD-take}
 use Rattle.modint32.specs.Answers.{val, wrap}
 use Rattle.rules.specs.Kind.{kind32}
-use Rattle.rules.proofs.Build.{SumsIn, BuiltSoFar, built-start, built-turn, built-done, built-none}
+use Rattle.rules.proofs.Build.{BuiltSoFar, built-start, built-turn, built-done, built-none}
 use Rattle.rules.proofs.WellFormed.{threshold-in-range}
 use Rattle.power_sum32.specs.Answers.{view}
 use Rattle.power_sum32.proofs.power_sum.PowerSumQuackU32.coefficients.Statement.{statement}
@@ -28,7 +28,8 @@ loop-holds : tie.Need-loop-holds Inv-loop μ-loop
 loop-holds c =
     let k = c .before .before .before .before in
     let s = k .before .before .before in (
-      built-start kind32 (s .args .coeffs .now) (omega (arith, k .if1 .left)) (s .pre .2) (c .value .ensures ∙ ap val (c .before .neg .ensures ∙ rw (← List·getD-map val (s .args .self .sums) 0 (wrap 0)))),
+      built-start kind32 (s .args .coeffs .now) (omega (arith, k .if1 .left)) (s .pre .2)
+          (c .value .ensures ∙ ap val (c .before .neg .ensures ∙ rw (← List·getD-map val (s .args .self .sums) 0 (wrap 0)))),
       omega (arith, s .pre .1, threshold-in-range kind32 _ _ _ (s .pre .0) .1),
     )
 
