@@ -1,0 +1,2 @@
+-- What is proved of the field's calls beside their contracts.
+pub mod Determined
