@@ -14,4 +14,5 @@ pub mod Balance
 pub mod Left
 pub mod Packet
 pub mod Promise
+pub mod Determined
 pub mod Cases

@@ -6,4 +6,5 @@ pub mod Decode
 pub mod Packet
 pub mod Calls
 pub mod History
+pub mod Determines
 pub mod Cases
