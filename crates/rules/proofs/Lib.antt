@@ -9,5 +9,6 @@ pub mod Recurrence
 pub mod Balance
 pub mod Left
 pub mod Packet
+pub mod Bytes
 pub mod Promise
 pub mod Cases
