@@ -91,3 +91,13 @@ evalOf cs c = valued (calls.evaluate kind32 cs c)
 -- Decoding of a log for a buffer of so many places.
 unfoldable pub decodeOf : PowerSumQuackU32 → List ℕ → ℕ → Outcome (List ℕ)
 decodeOf s log places = calls.decode kind32 (wellFormedOf s) (view s) log places
+
+-- Writing into a buffer of so many bytes, without a hint and with one.
+unfoldable pub writeOf : PowerSumQuackU32 → ℕ → Outcome (List ℕ)
+writeOf s room = calls.write kind32 (wellFormedOf s) (view s) room
+
+unfoldable pub writeWithHintOf : PowerSumQuackU32 → ℕ → ℕ → Outcome (List ℕ)
+writeWithHintOf s hint room = calls.writeWithHint kind32 (wellFormedOf s) (view s) hint room
+
+unfoldable pub readOf : List ℕ → Answer
+readOf bs = sketchAnswer empty (calls.read kind32 bs)

@@ -1,17 +1,11 @@
 // The sketch and its calls, by value.
 ghost use mathlib.Core.Path.{_≡_};
-ghost use mathlib.Core.Bool.{Bool, true, _&&_};
-ghost use mathlib.Core.List.{List, map, _++_};
-ghost use Prim.Native.Nat.{ℕ, _*_, _-_, _%_, _<_, _≤_, min};
-ghost use lib.ListN.{length, getD, drop};
-ghost use Rattle.numbers.proofs.Binomial.{sumTo};
-ghost use Rattle.modint32.specs.Answers.{val, wrap};
+ghost use mathlib.Core.Bool.{true, _&&_};
+ghost use Prim.Native.Nat.{_<_, min};
 ghost use Rattle.rules.specs.Kind.{kind32};
-ghost use Rattle.rules.specs.Field.{residue};
 ghost use Rattle.rules.specs.Sketch.{placeFits, lastFits, inRange, lastWithout, insert, remove, subtract};
-ghost use Rattle.rules.specs.Decode.{coefficients, evaluate, keep};
 ghost use Rattle.rules.specs.Calls.{written};
-ghost use Rattle.power_sum32.specs.Answers.{view, built, lastOf, lastTo, wellFormedOf, answered, numbered, newOf, insertOf, removeOf, subAssignOf, subOf, coefficientsOf, decodeOf};
+ghost use Rattle.power_sum32.specs.Answers.{view, built, lastOf, lastTo, wellFormedOf, answered, newOf, insertOf, removeOf, subAssignOf, subOf};
 use modint32::Code;
 use modint32::Residue;
 

@@ -13,6 +13,7 @@ pub mod Outcomes
 pub mod Balance
 pub mod Left
 pub mod Packet
+pub mod Bytes
 pub mod Promise
 pub mod Determined
 pub mod Cases
