@@ -51,8 +51,8 @@ impl Residue {
         ensures { λ r. ⌜ r ≡ wrap (minus kind32 (self .0) (rhs .0)) ⌝ }
     {
         let negative = Residue::MODULUS - rhs.0 % Residue::MODULUS;
-        let sum = (self.0 as u64) + (negative as u64);
-        Residue((sum % (Residue::MODULUS as u64)) as u32)
+        let difference = (self.0 as u64) + (negative as u64);
+        Residue((difference % (Residue::MODULUS as u64)) as u32)
     }
 
     pub fn neg(self) -> Residue
@@ -72,8 +72,8 @@ impl Residue {
     pub fn mul_add(self, rhs: Residue, term: Code) -> Residue
         ensures { λ r. ⌜ r ≡ wrap (plus kind32 (self .0 * rhs .0) (term .0)) ⌝ }
     {
-        let sum = (self.0 as u64) * (rhs.0 as u64) + (term.0 as u64);
-        Residue((sum % (Residue::MODULUS as u64)) as u32)
+        let total = (self.0 as u64) * (rhs.0 as u64) + (term.0 as u64);
+        Residue((total % (Residue::MODULUS as u64)) as u32)
     }
 
     // The exponent is halved until it is 0 or 1; on the way back the power is squared, and multiplied once more where the exponent is odd.

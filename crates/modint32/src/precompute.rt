@@ -2,7 +2,7 @@
 ghost use mathlib.Core.Path.{_≡_};
 ghost use Rattle.rules.specs.Kind.{kind32};
 ghost use mathlib.Core.Bool.{true};
-ghost use Rattle.rules.specs.Field.{inverseAt, inversesRight};
+ghost use Rattle.rules.specs.Field.{inverse, inverseAt, inversesRight};
 ghost use Rattle.modint32.specs.Answers.{val, wrap};
 use crate::Code;
 use crate::Residue;

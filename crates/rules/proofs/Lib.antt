@@ -6,10 +6,16 @@ pub mod Tests
 pub mod Sums
 pub mod WellFormed
 pub mod Recurrence
+pub mod Evaluate
+pub mod Build
+pub mod Keep
+pub mod Outcomes
 pub mod Balance
 pub mod Left
 pub mod Packet
+pub mod Bytes
 pub mod Promise
+pub mod Determined
 pub mod Cases
 pub mod Desk
 pub mod Text

@@ -1,12 +1,16 @@
 -- The cases from the bench, as one table: what is computed from the rules, beside what the paper says.
 -- Assumes nothing.
-use Prim.Native.Nat.{ℕ}
+use Prim.Native.Nat.{ℕ, zero, suc}
 use mathlib.Core.Bool.{Bool, true, false, _&&_}
-use mathlib.Core.List.{List, [], _∷_, map}
+use mathlib.Core.List.{List, [], _∷_, _++_, map}
 use lib.Dec.{eqb}
+use lib.ListN.{replicate}
 use Rattle.numbers.specs.Power.{powerWithin, powerMod}
 use Rattle.rules.specs.Kind.{kind32}
 use Rattle.rules.specs.Field.{residue, plus, minus, times, power, multiplicationsWithin, multiplications, inverse}
+use Rattle.rules.specs.Sketch.{Sketch, Last, nothing, code, fresh, insert, remove}
+use Rattle.rules.specs.Calls as calls
+use Rattle.rules.specs.Calls.{Outcome, refused, given}
 
 -- A case: the numbers that the rules give, and the numbers that the paper gives.
 pub record Case : Type 0 where
@@ -38,7 +42,86 @@ fieldCases =
     ∷ gives (power kind32 2 10 ∷ map multiplications (10 ∷ 4294967289 ∷ 4294967295 ∷ [])) (1024 ∷ 4 ∷ 60 ∷ 62 ∷ [])
     ∷ []
 
+-- ---- the sketch
+
+-- The codes of a list inserted one after the other.
+unfoldable pub inserts : Sketch → List ℕ → Sketch
+inserts s [] = s
+inserts s (c ∷ cs) = inserts (insert kind32 s c) cs
+
+-- n, n - 1, .. 1.
+unfoldable pub downFrom : ℕ → List ℕ
+downFrom zero = []
+downFrom (suc n) = suc n ∷ downFrom n
+
+-- A last code as a list: none is empty.
+abbrev lastList : Last → List ℕ
+lastList nothing = []
+lastList (code x) = x ∷ []
+
+-- What a call gives: its refusal, and then the list.
+abbrev listing : Outcome (List ℕ) → List ℕ
+listing (refused n) = n ∷ []
+listing (given l) = 0 ∷ l
+
+-- What reading gives: its refusal, and then the threshold.
+abbrev reading : Outcome Sketch → List ℕ
+reading (refused n) = n ∷ []
+reading (given s) = 0 ∷ s .threshold ∷ []
+
+-- P5, P6, P7: sums, coefficients, and what is listed of a log.
+unfoldable pub decodeCases : List Case
+unfolding inserts
+decodeCases =
+    let both = inserts (fresh 3) (10 ∷ 12 ∷ []) in
+    gives (both .sums) (22 ∷ 244 ∷ 2728 ∷ [])
+    ∷ gives (listing (calls.coefficients kind32 true both 3)) (0 ∷ 4294967269 ∷ 120 ∷ [])
+    ∷ gives (listing (calls.decode kind32 true both (1 ∷ 2 ∷ 10 ∷ 12 ∷ 10 ∷ []) 5)) (0 ∷ 10 ∷ 12 ∷ 10 ∷ [])
+    ∷ gives (listing (calls.decode kind32 true (inserts (fresh 3) (10 ∷ 10 ∷ [])) (1 ∷ 10 ∷ 10 ∷ 10 ∷ []) 4)) (0 ∷ 10 ∷ 10 ∷ 10 ∷ [])
+    ∷ []
+
+-- P9, P10, P11: removal from a fresh sketch, a count of 0 with sums, and the last code after a removal.
+unfoldable pub removeCases : List Case
+removeCases =
+    let below = remove kind32 (fresh 1) 1 in
+    let apart = remove kind32 (insert kind32 (fresh 2) 1) 2 in
+    let large = insert kind32 (fresh 2) 4294967295 in
+    gives (below .count ∷ below .sums) (4294967295 ∷ 4294967290 ∷ [])
+    ∷ gives (listing (calls.write kind32 true below 12)) (3 ∷ [])
+    ∷ gives (listing (calls.decode kind32 true below [] 0)) (4 ∷ [])
+    ∷ gives (apart .sums) (4294967290 ∷ 4294967288 ∷ [])
+    ∷ gives (apart .count ∷ lastList (apart .last)) (0 ∷ 1 ∷ [])
+    ∷ gives (listing (calls.decode kind32 true apart (1 ∷ 2 ∷ 3 ∷ []) 3)) (0 ∷ [])
+    ∷ gives (remove kind32 large 4294967295 .sums) (0 ∷ 0 ∷ [])
+    ∷ gives (lastList (remove kind32 large 4294967295 .last)) (4 ∷ [])
+    ∷ gives (lastList (remove kind32 large 4 .last)) []
+    ∷ []
+
+-- P8, P12: a packet's bytes, and how many sums packets of some lengths hold.
+unfoldable pub packetCases : List Case
+unfolding inserts
+packetCases =
+    gives (listing (calls.write kind32 true (inserts (fresh 2) (1 ∷ 10 ∷ [])) 16))
+    (0 ∷ 2 ∷ 0 ∷ 0 ∷ 0 ∷ 10 ∷ 0 ∷ 0 ∷ 0 ∷ 11 ∷ 0 ∷ 0 ∷ 0 ∷ 101 ∷ 0 ∷ 0 ∷ 0 ∷ [])
+    ∷ gives (reading (calls.read kind32 (replicate 7 0))) (6 ∷ [])
+    ∷ gives (reading (calls.read kind32 (replicate 8 0))) (7 ∷ [])
+    ∷ gives (reading (calls.read kind32 (replicate 11 0))) (7 ∷ [])
+    ∷ gives (reading (calls.read kind32 (replicate 140 0))) (7 ∷ [])
+    ∷ gives (reading (calls.read kind32 (replicate 12 0))) (0 ∷ 1 ∷ [])
+    ∷ gives (reading (calls.read kind32 (replicate 139 0))) (0 ∷ 32 ∷ [])
+    ∷ []
+
+-- The last case of the bench: the greatest count that decodes, and the greatest sum that is read.
+unfoldable pub limitCases : List Case
+unfolding inserts downFrom
+limitCases =
+    gives (listing (calls.decode kind32 true (inserts (fresh 32) (downFrom 32)) (33 ∷ downFrom 32) 33)) (0 ∷ downFrom 32)
+    ∷ gives (listing (calls.decode kind32 true (inserts (fresh 32) (downFrom 33)) [] 0)) (4 ∷ [])
+    ∷ gives (reading (calls.read kind32 (replicate 8 0 ++ (250 ∷ 255 ∷ 255 ∷ 255 ∷ [])))) (0 ∷ 1 ∷ [])
+    ∷ gives (reading (calls.read kind32 (replicate 8 0 ++ (251 ∷ 255 ∷ 255 ∷ 255 ∷ [])))) (8 ∷ [])
+    ∷ []
+
 -- The whole table.
 unfoldable pub cases : List Case
-unfolding fieldCases
-cases = fieldCases
+unfolding fieldCases decodeCases removeCases packetCases limitCases
+cases = fieldCases ++ (decodeCases ++ (removeCases ++ (packetCases ++ limitCases)))

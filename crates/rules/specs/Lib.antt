@@ -6,6 +6,7 @@ pub mod Decode
 pub mod Packet
 pub mod Calls
 pub mod History
+pub mod Determines
 pub mod Cases
 pub mod Lines
 pub mod Desk

@@ -5,11 +5,11 @@ use Rattle.numbers.proofs.Product.{product-below, product-and-term-below}
 use Rattle.modint32.proofs.Residue.mul_add.Statement.{statement}
 use Rattle.modint32.proofs.Residue.mul_add.Tie as tie
 
-mul-sum : tie.Need-mul-sum
-mul-sum c = record { fits = product-below 32 (search needs) (search needs) }
+mul-total : tie.Need-mul-total
+mul-total c = record { fits = product-below 32 (search needs) (search needs) }
 
-add-sum : tie.Need-add-sum
-add-sum c = record { fits = product-and-term-below 32 (search needs) (search needs) (search needs) }
+add-total : tie.Need-add-total
+add-total c = record { fits = product-and-term-below 32 (search needs) (search needs) (search needs) }
 
 pub mul-add-spec : {M : Type 1} → statement M
 mul-add-spec =
@@ -17,9 +17,9 @@ mul-add-spec =
     (tie.spec
     (λ c. search needs)
     (λ c. search needs)
-    mul-sum
+    mul-total
     (λ c. search needs)
-    add-sum
+    add-total
     (λ c. search needs)
     (λ c. search needs)
     (λ c. search needs)

@@ -1,0 +1,3 @@
+-- What is proved of the field's calls beside their contracts.
+pub mod Determined
+pub mod Idle

@@ -1,0 +1,41 @@
+-- The test, and then every sum.
+-- Assumes nothing.
+use mathlib.Core.Path.{sym, _∙_}
+use mathlib.Core.List.{map}
+use native.Mathlib.Omega.{arith}
+use lib.ListN.{length}
+use borrow.Author.Needs.{needs}
+use Rattle.modint32.specs.Answers.{val}
+use Rattle.rules.specs.Kind.{kind32}
+use Rattle.rules.proofs.WellFormed.{threshold-in-range}
+use Rattle.rules.proofs.Bytes.{write-malformed, write-packed}
+use Rattle.power_sum32.specs.Answers.{view, lastOf, writeOf}
+use Rattle.power_sum32.proofs.power_sum.PowerSumQuackU32.serialize.Statement.{statement}
+use Rattle.power_sum32.proofs.power_sum.PowerSumQuackU32.serialize.Tie as tie
+
+write-first-requires : tie.Need-write-first-requires
+write-first-requires c κs =
+    let w = c .before .before in
+    let self = w .before .before .args .self in
+    let ok = sym (w .well-formed .ensures) ∙ c .before .if1 .taken in
+    (omega arith, threshold-in-range kind32 (self .threshold) (map val (self .sums)) (lastOf (self .last)) ok .1)
+
+returns : tie.Need-returns
+unfolding writeOf
+returns c =
+    let f = c .before .before in
+    let w = f .before .before .before in
+    let a = w .before .before .args in
+    let o = write-packed kind32 (view (a .self)) (length (a .buf .now)) (sym (w .well-formed .ensures) ∙ f .before .before .if1 .taken) in
+    (rw o (f .write-first .ensures .0), rw o (f .write-first .ensures .1))
+
+returns-2 : tie.Need-returns-2
+unfolding writeOf
+returns-2 c =
+    let w = c .before .before in
+    let a = w .before .before .args in
+    let o = write-malformed kind32 (view (a .self)) (length (a .buf .now)) (sym (w .well-formed .ensures) ∙ c .before .if1 .left) in
+    (rw o (c .not-written .ensures), rw o)
+
+pub serialize-spec : {M : Type 1} → statement M
+serialize-spec = tie.close (tie.spec (λ c κs. tt) write-first-requires (λ c κs. tt) (λ c. search needs) returns returns-2)

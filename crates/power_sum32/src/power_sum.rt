@@ -1,0 +1,285 @@
+// The sketch and its calls, by value.
+ghost use mathlib.Core.Path.{_≡_};
+ghost use mathlib.Core.Bool.{true, _&&_};
+ghost use Prim.Native.Nat.{_<_, min};
+ghost use Rattle.rules.specs.Kind.{kind32};
+ghost use Rattle.rules.specs.Sketch.{placeFits, lastFits, inRange, lastWithout, insert, remove, subtract};
+ghost use Rattle.rules.specs.Calls.{written};
+ghost use Rattle.power_sum32.specs.Answers.{view, built, lastOf, lastTo, wellFormedOf, answered, newOf, insertOf, removeOf, subAssignOf, subOf};
+use modint32::Code;
+use modint32::Residue;
+
+// The last code that was inserted, or none.
+pub enum Last {
+    Nothing,
+    Code(Residue),
+}
+
+// The sums stand in the first `threshold` places; the further places hold 0.
+pub struct PowerSumQuackU32 {
+    pub threshold: usize,
+    pub sums: [Residue; 32],
+    pub count: u32,
+    pub last: Last,
+}
+
+// A sketch, or the number of a refusal and the sketch given.
+pub struct Answer {
+    pub refusal: u32,
+    pub sketch: PowerSumQuackU32,
+}
+
+// How many numbers were written, or the number of a refusal and 0.
+pub struct Number {
+    pub refusal: u32,
+    pub value: usize,
+}
+
+fn in_range(threshold: usize) -> bool
+    ensures { λ r. ⌜ r ≡ inRange kind32 threshold ⌝ }
+{
+    if threshold < 1 {
+        return false;
+    }
+    threshold <= 32
+}
+
+fn place_fits(threshold: usize, k: usize, s: Residue) -> bool
+    ensures { λ r. ⌜ r ≡ placeFits kind32 threshold k (s .0) ⌝ }
+{
+    let value = s.value();
+    if k < threshold {
+        value < Residue::MODULUS
+    } else {
+        value == 0
+    }
+}
+
+fn last_fits(last: Last) -> bool
+    ensures { λ r. ⌜ r ≡ lastFits kind32 (lastOf last) ⌝ }
+{
+    match last {
+        Last::Nothing => true,
+        Last::Code(x) => x.value() < Residue::MODULUS,
+    }
+}
+
+fn last_without(last: Last, code: Code) -> Last
+    ensures { λ r. ⌜ r ≡ lastTo (lastWithout (lastOf last) (code .0)) ⌝ }
+{
+    match last {
+        Last::Nothing => Last::Nothing,
+        Last::Code(x) => if x.value() == code.0 {
+            Last::Nothing
+        } else {
+            Last::Code(x)
+        },
+    }
+}
+
+fn smaller(a: usize, b: usize) -> usize
+    ensures { λ r. ⌜ r ≡ min a b ⌝ }
+{
+    if a < b { a } else { b }
+}
+
+fn answer_with(refusal: u32, sketch: PowerSumQuackU32) -> Answer
+    ensures { λ r. ⌜ r ≡ answered refusal sketch ⌝ }
+{
+    Answer { refusal, sketch }
+}
+
+impl PowerSumQuackU32 {
+    pub fn new(threshold: usize) -> Answer
+        ensures { λ r. ⌜ r ≡ newOf threshold ⌝ }
+    {
+        let sums = [Residue::zero(); 32];
+        if in_range(threshold) {
+            answer_with(
+                0,
+                PowerSumQuackU32 {
+                    threshold,
+                    sums,
+                    count: 0,
+                    last: Last::Nothing,
+                },
+            )
+        } else {
+            answer_with(
+                1,
+                PowerSumQuackU32 {
+                    threshold: 0,
+                    sums,
+                    count: 0,
+                    last: Last::Nothing,
+                },
+            )
+        }
+    }
+
+    pub fn threshold(self) -> usize
+        ensures { λ r. ⌜ r ≡ self .threshold ⌝ }
+    {
+        self.threshold
+    }
+
+    pub fn count(self) -> u32
+        ensures { λ r. ⌜ r ≡ self .count ⌝ }
+    {
+        self.count
+    }
+
+    pub fn last_value(self) -> Last
+        ensures { λ r. ⌜ r ≡ self .last ⌝ }
+    {
+        self.last
+    }
+
+    pub fn well_formed(self) -> bool
+        ensures { λ r. ⌜ r ≡ wellFormedOf self ⌝ }
+    {
+        let threshold = self.threshold;
+        if !in_range(threshold) {
+            return false;
+        }
+        let sums = self.sums;
+        for k in 0..32 {
+            let here = sums[k];
+            if !place_fits(threshold, k, here) {
+                return false;
+            }
+        }
+        let last = self.last;
+        last_fits(last)
+    }
+
+    // The core of `insert`: what it makes of a well-formed sketch.
+    fn inserted(self, code: Code) -> PowerSumQuackU32
+        requires { ⌜ wellFormedOf self ≡ true ⌝ }
+        ensures { λ r. ⌜ r ≡ built (insert kind32 (view self) (code .0)) ⌝ }
+    {
+        let x = Residue::reduce(code);
+        let threshold = self.threshold;
+        let mut sums = self.sums;
+        let first = sums[0];
+        sums[0] = first.add(x);
+        let mut power = x;
+        for k in 1..threshold {
+            power = power.mul(x);
+            let sum = sums[k];
+            sums[k] = sum.add(power);
+        }
+        let count = std::num::wrapping_add_u32(self.count, 1);
+        PowerSumQuackU32 {
+            threshold,
+            sums,
+            count,
+            last: Last::Code(x),
+        }
+    }
+
+    pub fn insert(self, code: Code) -> Answer
+        ensures { λ r. ⌜ r ≡ insertOf self code ⌝ }
+    {
+        if self.well_formed() {
+            answer_with(0, self.inserted(code))
+        } else {
+            answer_with(12, self)
+        }
+    }
+
+    // The core of `remove`.
+    fn removed(self, code: Code) -> PowerSumQuackU32
+        requires { ⌜ wellFormedOf self ≡ true ⌝ }
+        ensures { λ r. ⌜ r ≡ built (remove kind32 (view self) (code .0)) ⌝ }
+    {
+        let x = Residue::reduce(code);
+        let threshold = self.threshold;
+        let mut sums = self.sums;
+        let first = sums[0];
+        sums[0] = first.sub(x);
+        let mut power = x;
+        for k in 1..threshold {
+            power = power.mul(x);
+            let sum = sums[k];
+            sums[k] = sum.sub(power);
+        }
+        let count = std::num::wrapping_sub_u32(self.count, 1);
+        let stored = self.last;
+        let last = last_without(stored, code);
+        PowerSumQuackU32 {
+            threshold,
+            sums,
+            count,
+            last,
+        }
+    }
+
+    pub fn remove(self, code: Code) -> Answer
+        ensures { λ r. ⌜ r ≡ removeOf self code ⌝ }
+    {
+        if self.well_formed() {
+            answer_with(0, self.removed(code))
+        } else {
+            answer_with(12, self)
+        }
+    }
+
+    fn both_well_formed(self, rhs: PowerSumQuackU32) -> bool
+        ensures { λ r. ⌜ r ≡ (wellFormedOf self && wellFormedOf rhs) ⌝ }
+    {
+        if self.well_formed() {
+            rhs.well_formed()
+        } else {
+            false
+        }
+    }
+
+    // The core of both subtractions, at the smaller threshold.
+    fn subtracted(self, rhs: PowerSumQuackU32, threshold: usize) -> PowerSumQuackU32
+        requires { ⌜ ((wellFormedOf self && wellFormedOf rhs) ≡ true) × (threshold ≡ min (self .threshold) (rhs .threshold)) ⌝ }
+        ensures { λ r. ⌜ r ≡ built (subtract kind32 (view self) (view rhs)) ⌝ }
+    {
+        let left = self.sums;
+        let right = rhs.sums;
+        let mut sums = [Residue::zero(); 32];
+        for k in 0..threshold {
+            let a = left[k];
+            let b = right[k];
+            sums[k] = a.sub(b);
+        }
+        let count = std::num::wrapping_sub_u32(self.count, rhs.count);
+        PowerSumQuackU32 {
+            threshold,
+            sums,
+            count,
+            last: Last::Nothing,
+        }
+    }
+
+    pub fn sub_assign(self, rhs: PowerSumQuackU32) -> Answer
+        ensures { λ r. ⌜ r ≡ subAssignOf self rhs ⌝ }
+    {
+        if self.both_well_formed(rhs) {
+            let threshold = self.threshold;
+            if threshold == rhs.threshold {
+                answer_with(0, self.subtracted(rhs, threshold))
+            } else {
+                answer_with(2, self)
+            }
+        } else {
+            answer_with(12, self)
+        }
+    }
+
+    pub fn sub(self, rhs: PowerSumQuackU32) -> Answer
+        ensures { λ r. ⌜ r ≡ subOf self rhs ⌝ }
+    {
+        if self.both_well_formed(rhs) {
+            let threshold = smaller(self.threshold, rhs.threshold);
+            answer_with(0, self.subtracted(rhs, threshold))
+        } else {
+            answer_with(12, self)
+        }
+    }
+}
