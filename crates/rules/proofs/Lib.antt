@@ -19,3 +19,5 @@ pub mod Determined
 pub mod Cases
 pub mod Desk
 pub mod Text
+pub mod Room
+pub mod Missing

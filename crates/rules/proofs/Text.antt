@@ -1,16 +1,17 @@
 -- The laws of the answer's text: the digits of a number, and how long lines are.
 -- Assumes nothing.
-use Prim.Native.Nat.{ℕ, zero, suc, _+_, _/_, _^_, _≤_, _<_}
-use mathlib.Core.Path.{_≡_, refl}
+use Prim.Native.Nat.{ℕ, zero, suc, _+_, _*_, _/_, _^_, _≤_, _<_, zero-le}
+use mathlib.Core.Path.{_≡_, refl, ap, sym, _∙_}
 use mathlib.Core.Bool.{Bool, true, false, cond}
-use mathlib.Core.List.{List, [], _∷_, _++_}
-use native.Mathlib.Nat.{pow-suc, pow-zero}
+use mathlib.Core.List.{List, [], _∷_, _++_, append-assoc, append-nil}
+use native.Mathlib.Nat.{pow-suc, pow-zero, mul-suc}
 use native.Mathlib.Numerals.{add-one}
 use native.Mathlib.Omega.{arith}
 use lib.Dec.{ltb}
-use lib.ListN.{length, getD, drop, length-append}
-use lib.Seq.{drop-cons}
+use lib.ListN.{length, getD, take, drop, length-append, take-append-drop}
+use lib.Seq.{take-suc}
 use borrow.Author.Tests.{lt-ltb, le-ltb, ltb-true, ltb-false}
+use Rattle.newton.specs.Members.{AllBelow}
 use Rattle.rules.specs.Text.{lastDigit, decimalWithin, decimal, line, lines}
 
 -- ---- the digits of a number
@@ -51,7 +52,33 @@ pub line-length : (word : List ℕ) (n : ℕ) → length (line word n) ≡ lengt
 unfolding line
 line-length word n = simp length-append (omega arith)
 
--- The lines from the i-th number on are its own line, and those from the next number on.
-pub lines-from : (word xs : List ℕ) (i : ℕ) → i < length xs → lines word (drop i xs) ≡ line word (getD xs i 0) ++ lines word (drop (i + 1) xs)
+pub lines-append : (word xs ys : List ℕ) → lines word (xs ++ ys) ≡ lines word xs ++ lines word ys
 unfolding lines
-lines-from word xs i u = rw (add-one, drop-cons xs i 0 u)
+lines-append word [] ys = refl
+lines-append word (x ∷ xs) ys = rw (lines-append word xs ys, append-assoc)
+
+-- One line more.
+pub lines-more : (word xs : List ℕ) (i : ℕ) → i < length xs → lines word (take (i + 1) xs) ≡ lines word (take i xs) ++ line word (getD xs i 0)
+unfolding lines
+lines-more word xs i u = rw (add-one, take-suc xs i 0, lines-append, append-nil)
+
+-- The lines of the first numbers are no longer than those of all.
+pub lines-part : (word xs : List ℕ) (i : ℕ) → length (lines word (take i xs)) ≤ length (lines word xs)
+lines-part word xs i =
+    let whole : length (lines word (take i xs)) + length (lines word (drop i xs)) ≡ length (lines word xs) =
+    sym (length-append (lines word (take i xs)) (lines word (drop i xs)))
+    ∙ ap length (sym (lines-append word (take i xs) (drop i xs)) ∙ ap (lines word) (take-append-drop i xs)) in
+    omega arith
+
+-- ---- how long an answer is
+
+-- A number of at most twenty digits.
+pub line-short : (word : List ℕ) (n : ℕ) → n < 10 ^ 20 → length (line word n) ≤ length word + 21
+line-short word n u = omega (arith, line-length word n, decimal-short 19 n u)
+
+pub lines-short : (word xs : List ℕ) → AllBelow (10 ^ 20) xs → length (lines word xs) ≤ (length word + 21) * length xs
+unfolding lines
+lines-short word [] below = zero-le
+lines-short word (x ∷ xs) below =
+    let more : (length word + 21) * suc (length xs) ≡ (length word + 21) * length xs + (length word + 21) = mul-suc (length word + 21) (length xs) in
+    rw length-append (omega (arith, line-short word x (below .0), lines-short word xs (below .1)))
