@@ -30,6 +30,25 @@ Small n = n < 10 ^ 20
 abbrev AllSmall : List ℕ → Type 0
 AllSmall = AllBelow (10 ^ 20)
 
+-- ---- how many entries are listed
+
+keep-fewer : (test : ℕ → Bool) (l : List ℕ) → length (keep test l) ≤ length l
+keep-fewer test [] = zero-le
+keep-fewer test (c ∷ l) = by-test (test c) (keep-fewer test l)
+  where
+    by-test : (b : Bool) → length (keep test l) ≤ length l → length (cond b (c ∷ keep test l) (keep test l)) ≤ suc (length l)
+    by-test true h = omega arith
+    by-test false h = omega arith
+
+-- A sketch lists no more than a log has.
+pub decode-fewer : (K : Kind) (s : Sketch) (l : List ℕ) → length (decoding.decode K s l) ≤ length l
+unfolding decoding.decode
+decode-fewer K s l = by-count (eqb (s .count) 0)
+  where
+    by-count : (none : Bool) → length (cond none [] (keep (λ c. eqb (evaluate K (coefficients K s) c) 0) l)) ≤ length l
+    by-count true = zero-le
+    by-count false = keep-fewer (λ c. eqb (evaluate K (coefficients K s) c) 0) l
+
 -- ---- what a line says
 
 abbrev Says : Line → Type 0
@@ -121,23 +140,20 @@ module _ (K : Kind) (narrow : 256 ^ K .codeBytes ≤ 10 ^ 20) where
 
   -- ---- the answer
 
-  keep-small : (test : ℕ → Bool) (l : List ℕ) → AllSmall l → AllSmall (keep test l) × (length (keep test l) ≤ length l)
-  keep-small test [] small = (tt, zero-le)
+  keep-small : (test : ℕ → Bool) (l : List ℕ) → AllSmall l → AllSmall (keep test l)
+  keep-small test [] small = tt
   keep-small test (c ∷ l) small = by-test (test c) (keep-small test l (small .1))
     where
-      by-test : (b : Bool) → AllSmall (keep test l) × (length (keep test l) ≤ length l)
-          → AllSmall (cond b (c ∷ keep test l) (keep test l)) × (length (cond b (c ∷ keep test l) (keep test l)) ≤ suc (length l))
-      by-test true h = ((small .0, h .0), omega (arith, h .1))
-      by-test false h = (h .0, omega (arith, h .1))
+      by-test : (b : Bool) → AllSmall (keep test l) → AllSmall (cond b (c ∷ keep test l) (keep test l))
+      by-test true h = (small .0, h)
+      by-test false h = h
 
-  decode-small : (s : Sketch) (l : List ℕ) → AllSmall l → AllSmall (decoding.decode K s l) × (length (decoding.decode K s l) ≤ length l)
+  decode-small : (s : Sketch) (l : List ℕ) → AllSmall l → AllSmall (decoding.decode K s l)
   unfolding decoding.decode
   decode-small s l small = by-count (eqb (s .count) 0)
     where
-      by-count : (none : Bool)
-          → AllSmall (cond none [] (keep (λ c. eqb (evaluate K (coefficients K s) c) 0) l))
-          × (length (cond none [] (keep (λ c. eqb (evaluate K (coefficients K s) c) 0) l)) ≤ length l)
-      by-count true = (tt, zero-le)
+      by-count : (none : Bool) → AllSmall (cond none [] (keep (λ c. eqb (evaluate K (coefficients K s) c) 0) l))
+      by-count true = tt
       by-count false = keep-small (λ c. eqb (evaluate K (coefficients K s) c) 0) l small
 
   -- What is told has few digits and few entries.
@@ -152,7 +168,7 @@ module _ (K : Kind) (narrow : 256 ^ K .codeBytes ≤ 10 ^ 20) where
       by-tests : (within room : Bool) → Tells (reported T (s .count) (unless within 4 (unless room 5 (given (decoding.decode K s l)))))
       by-tests false room = omega arith
       by-tests true false = omega arith
-      by-tests true true = let d = decode-small s l sl in (st, sc, d .0, omega (arith, d .1))
+      by-tests true true = (st, sc, decode-small s l sl, omega (arith, decode-fewer K s l))
 
   subtract-small : (s o : Sketch) → Small (subtract K s o .count)
   unfolding subtract
