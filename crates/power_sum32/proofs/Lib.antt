@@ -1,5 +1,6 @@
 -- What is proved of the calls beside their contracts, a file for each matter.
 pub mod Chain
 pub mod Determined
+pub mod Idle
 pub mod Lists
 pub mod Promise
