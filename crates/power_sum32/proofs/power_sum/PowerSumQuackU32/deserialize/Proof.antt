@@ -1,16 +1,30 @@
 -- The tests, and then the sketch that the bytes say. The part from byte 8 on is all that stands from there.
 -- Assumes nothing.
-use mathlib.Core.Path.{_∙_}
+use Prim.Native.Nat.{ℕ, _-_}
+use mathlib.Core.Path.{_≡_, ap, _∙_}
+use mathlib.Core.List.{List, map}
 use native.Mathlib.Omega.{arith}
-use lib.ListN.{length-drop}
+use lib.Dec.{ltb}
+use lib.ListN.{length, take, drop, length-drop}
 use borrow.Author.Needs.{needs}
+use Rattle.numbers.specs.Table.{every}
+use Rattle.modint32.specs.Answers.{wrap}
 use Rattle.rules.specs.Kind.{kind32}
-use Rattle.rules.specs.Packet.{sketchIn}
+use Rattle.rules.specs.Sketch.{placed}
+use Rattle.rules.specs.Packet.{allNumbers, sumsIn, sumsOf, sketchIn}
 use Rattle.rules.proofs.Tests.{passed, failed}
 use Rattle.rules.proofs.Bytes.{all-from, read-short, read-none, read-many, read-large, read-given}
 use Rattle.power_sum32.specs.Answers.{readOf}
 use Rattle.power_sum32.proofs.power_sum.PowerSumQuackU32.deserialize.Statement.{statement}
 use Rattle.power_sum32.proofs.power_sum.PowerSumQuackU32.deserialize.Tie as tie
+
+-- The sums of the part that is handed on are those of the packet.
+same-sums : (bs : List ℕ) → allNumbers 4 (sumsIn kind32 (length bs)) (take (length bs - 8) (drop 8 bs)) ≡ sumsOf kind32 bs
+same-sums bs = rw (all-from 8 bs)
+
+same-test : (bs : List ℕ) → every (λ (k s : ℕ). ltb s (kind32 .modulus)) 0 (allNumbers 4 (sumsIn kind32 (length bs)) (take (length bs - 8) (drop 8 bs)))
+    ≡ every (λ (k s : ℕ). ltb s (kind32 .modulus)) 0 (sumsOf kind32 bs)
+same-test bs = rw (same-sums bs)
 
 returns : tie.Need-returns
 unfolding readOf
@@ -36,7 +50,7 @@ returns-4 c =
     let f = c .before .before in
     let e = f .before .before in
     let bs = e .before .before .before .before .args .buf .now in
-    let large = failed (rw (all-from 8 bs) at (f .sums-fit .ensures)) (c .before .if4 .taken) in
+    let large = failed (f .sums-fit .ensures ∙ same-test bs) (c .before .if4 .taken) in
     c .not-read4 .ensures ∙ rw (read-large kind32 bs (e .before .before .if1 .left) (e .before .if2 .left) (e .if3 .left) large)
 
 sums-from-requires : tie.Need-sums-from-requires
@@ -50,14 +64,13 @@ returns-5 c =
     let d = c .before .before .before .before in
     let e = d .before .before .before in
     let bs = e .before .before .before .before .args .buf .now in
-    let fit = passed (rw (all-from 8 bs) at (d .before .sums-fit .ensures)) (d .if4 .left) in
+    let fit = passed (d .before .sums-fit .ensures ∙ same-test bs) (d .if4 .left) in
     rw (
       read-given kind32 bs (e .before .before .if1 .left) (e .before .if2 .left) (e .if3 .left) fit,
-      c .sums-from .ensures,
+      c .sums-from .ensures ∙ ap (λ (l : List ℕ). map wrap (placed kind32 l)) (same-sums bs),
       c .before .reduce .ensures,
       c .before .before .word-at2 .ensures,
       c .before .before .before .word-at .ensures,
-      all-from 8 bs,
     )
 
 pub deserialize-spec : {M : Type 1} → statement M
