@@ -18,6 +18,6 @@ put-word-spec =
     (λ c. search needs)
     (λ c. simp length-set (omega arith))
     (λ c. search needs)
-    (λ c. search needs)
+    (λ c. simp length-set (omega arith))
     (λ c. search needs)
     (λ c. bytes-of-four (c .args .part .now) (c .args .x) (c .pre)))
