@@ -3,7 +3,7 @@
 use Prim.Native.Nat.{ℕ, _<_, _≤_}
 use mathlib.Core.Path.{_≡_, refl, sym, _∙_}
 use mathlib.Core.Bool.{true}
-use mathlib.Core.List.{List, map}
+use mathlib.Core.List.{map}
 use lib.ListN.{length, length-map}
 use lib.Seq.{take-at}
 use borrow.Author.Tests.{le-leb, eq-eqb}
@@ -18,7 +18,7 @@ use Rattle.rules.proofs.Sums.{wrapped, unwrapped}
 use Rattle.power_sum32.specs.declared.power_sum.PowerSumQuackU32.{PowerSumQuackU32}
 use Rattle.power_sum32.specs.declared.power_sum.Last as Struct
 use Rattle.power_sum32.specs.declared.power_sum.Last.the-variants as variants
-use Rattle.power_sum32.specs.Answers.{lastOf, lastTo, view, built, wellFormedOf, answered, newOf, insertOf, removeOf, subAssignOf, subOf, decodeOf, writeOf, writeWithHintOf, readOf}
+use Rattle.power_sum32.specs.Answers.{lastOf, lastTo, view, built, wellFormedOf, answered, newOf, insertOf, removeOf, subAssignOf, subOf}
 
 last-back : (a : rules.Last) → lastOf (lastTo a) ≡ a
 last-back nothing = refl
@@ -77,20 +77,3 @@ sub-assign-chain g o w v e = rw (built-well-formed g w, built-well-formed o v, v
 pub sub-chain : (g o : Sketch) → WellFormed kind32 g → WellFormed kind32 o → subOf (built g) (built o) ≡ answered 0 (built (subtract kind32 g o))
 unfolding subOf calls.sub
 sub-chain g o w v = rw (built-well-formed g w, built-well-formed o v, view-built g w, view-built o v)
-
-pub decode-chain : (g : Sketch) (log : List ℕ) (places : ℕ) → WellFormed kind32 g → decodeOf (built g) log places ≡ calls.decode kind32 true g log places
-unfolding decodeOf
-decode-chain g log places w = rw (built-well-formed g w, view-built g w)
-
-pub write-chain : (g : Sketch) (room : ℕ) → WellFormed kind32 g → writeOf (built g) room ≡ calls.write kind32 true g room
-unfolding writeOf
-write-chain g room w = rw (built-well-formed g w, view-built g w)
-
-pub write-with-hint-chain : (g : Sketch) (hint room : ℕ) → WellFormed kind32 g → writeWithHintOf (built g) hint room ≡ calls.writeWithHint kind32 true g hint room
-unfolding writeWithHintOf
-write-with-hint-chain g hint room w = rw (built-well-formed g w, view-built g w)
-
--- A packet that is read answers the struct of its sketch.
-pub read-chain : (bs : List ℕ) (g : Sketch) → calls.read kind32 bs ≡ calls.given g → readOf bs ≡ answered 0 (built g)
-unfolding readOf
-read-chain bs g e = rw e

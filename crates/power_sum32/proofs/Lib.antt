@@ -2,5 +2,3 @@
 pub mod Chain
 pub mod Determined
 pub mod Idle
-pub mod Lists
-pub mod Promise
