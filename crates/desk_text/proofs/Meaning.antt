@@ -23,8 +23,10 @@ use Rattle.rules.proofs.Desk as rules
 use Rattle.rules.proofs.Desk.{State, stateAfter, read-after}
 use Rattle.power_sum32.specs.declared.power_sum.PowerSumQuackU32.{PowerSumQuackU32}
 use Rattle.power_sum32.specs.declared.power_sum.Answer.{Answer}
-use Rattle.power_sum32.specs.Answers.{built, empty, answered, sketchAnswer, newOf, insertOf, subAssignOf, decodeOf}
-use Rattle.power_sum32.proofs.Chain.{view-built, built-well-formed, insert-chain, sub-assign-chain}
+use Rattle.power_sum32.specs.Answers.{built, empty, answered, sketchAnswer, newOf, insertOf, subAssignOf}
+use Rattle.decoder32.specs.Answers.{decodeOf}
+use Rattle.power_sum32.proofs.Chain.{insert-chain, sub-assign-chain}
+use Rattle.decoder32.proofs.Chain.{decode-chain}
 use Rattle.desk_text.specs.declared.reader.Key.{Key}
 use Rattle.desk_text.specs.declared.reader.Key.the-variants.{Threshold, Log, Got}
 use Rattle.desk_text.specs.declared.reader.Line.{Line}
@@ -234,10 +236,10 @@ module _ (T : ℕ) (l g log : List ℕ) (range : InRange T) (front : take (lengt
 
   -- The lent list has a place for each entry.
   listed : decodeOf (built lacking) l mostLines ≡ calls.decode kind32 true lacking l (length l)
-  unfolding decodeOf calls.decode
+  unfolding calls.decode
   listed =
       let all : leb (length l) (length l) ≡ true = le-leb (length l) (length l) (omega arith) in
-      rw (built-well-formed lacking lacking-well-formed, view-built lacking lacking-well-formed, le-leb (length l) mostLines few, all)
+      decode-chain lacking l mostLines lacking-well-formed ∙ rw (le-leb (length l) mostLines few, all)
 
   decides : (p : Phase) → decidedOf (record { phase = p; entries = length l; sent = built (codes T l); arrived = built (codes T g) }) log ≡ decided kind32 T l lacking
   unfolding decidedOf decided

@@ -42,7 +42,7 @@ fn decide(d: Desk, log: &[u32], out: &mut [u8]) -> Number
     }
     let lacking = difference.sketch;
     let mut found = [0u32; 8192];
-    let listed = lacking.decode_with_log(&log[..entries], &mut found);
+    let listed = decoder32::decode_with_log(lacking, &log[..entries], &mut found);
     if listed.refusal > 0 {
         return writer::write_refused(out, listed.refusal);
     }

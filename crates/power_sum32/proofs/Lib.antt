@@ -1,5 +1,4 @@
 -- What is proved of the calls beside their contracts, a file for each matter.
 pub mod Chain
 pub mod Determined
-pub mod Lists
-pub mod Promise
+pub mod Idle

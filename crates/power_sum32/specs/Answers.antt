@@ -16,7 +16,6 @@ use Rattle.power_sum32.specs.declared.power_sum.Answer.{Answer}
 use Rattle.power_sum32.specs.declared.power_sum.Number.{Number}
 use Rattle.power_sum32.specs.declared.power_sum.Last as Struct
 use Rattle.power_sum32.specs.declared.power_sum.Last.the-variants as variants
-use Rattle.power_sum32.specs.declared.evaluator.Evaluated.{Evaluated}
 
 -- ---- a struct and what it stands for
 
@@ -55,11 +54,6 @@ sketchAnswer s (given g) = answered 0 (built g)
 abbrev pub numbered : Outcome (List ℕ) → Number
 numbered o = record { refusal = refusalOf o; value = lengthOf o }
 
--- The answer of an evaluation.
-abbrev pub valued : Outcome ℕ → Evaluated
-valued (refused n) = record { refusal = n; value = wrap 0 }
-valued (given x) = record { refusal = 0; value = wrap x }
-
 -- What make and read hand back where they are refused: threshold 0, all zeros, no last code.
 abbrev pub empty : PowerSumQuackU32
 empty = built (record { threshold = 0; sums = []; count = 0; last = nothing })
@@ -80,24 +74,3 @@ subAssignOf s o = sketchAnswer s (calls.subAssign kind32 (wellFormedOf s && well
 
 unfoldable pub subOf : PowerSumQuackU32 → PowerSumQuackU32 → Answer
 subOf s o = sketchAnswer s (calls.sub kind32 (wellFormedOf s && wellFormedOf o) (view s) (view o))
-
--- Coefficients for a buffer of so many places.
-unfoldable pub coefficientsOf : PowerSumQuackU32 → ℕ → Outcome (List ℕ)
-coefficientsOf s places = calls.coefficients kind32 (wellFormedOf s) (view s) places
-
-unfoldable pub evalOf : List ℕ → ℕ → Evaluated
-evalOf cs c = valued (calls.evaluate kind32 cs c)
-
--- Decoding of a log for a buffer of so many places.
-unfoldable pub decodeOf : PowerSumQuackU32 → List ℕ → ℕ → Outcome (List ℕ)
-decodeOf s log places = calls.decode kind32 (wellFormedOf s) (view s) log places
-
--- Writing into a buffer of so many bytes, without a hint and with one.
-unfoldable pub writeOf : PowerSumQuackU32 → ℕ → Outcome (List ℕ)
-writeOf s room = calls.write kind32 (wellFormedOf s) (view s) room
-
-unfoldable pub writeWithHintOf : PowerSumQuackU32 → ℕ → ℕ → Outcome (List ℕ)
-writeWithHintOf s hint room = calls.writeWithHint kind32 (wellFormedOf s) (view s) hint room
-
-unfoldable pub readOf : List ℕ → Answer
-readOf bs = sketchAnswer empty (calls.read kind32 bs)

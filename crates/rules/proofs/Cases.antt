@@ -10,7 +10,7 @@ use Rattle.rules.specs.Packet.{bytes, number, allBytes, allNumbers, pack
 use Rattle.rules.specs.Calls as calls
 use Rattle.rules.specs.Cases.{allHold, inserts, downFrom, fieldCases, decodeCases, removeCases, packetCases, limitCases, cases}
 
--- Every case of the table gives what the paper says.
+-- Every case of the table gives what the requirements say.
 pub all-cases-hold : T (allHold cases)
 unfolding cases fieldCases decodeCases removeCases packetCases limitCases inserts downFrom powerMod powerWithin every multiplications multiplicationsWithin each fresh insert remove newestFirst coefficients evaluate decode bytes number allBytes allNumbers packet sketchIn calls.coefficients calls.decode calls.write calls.read
 all-cases-hold = tt

@@ -17,7 +17,8 @@ use Rattle.rules.specs.Kind.{Kind, counts}
 use Rattle.rules.specs.Field.{residue}
 use Rattle.rules.specs.Sketch.{Last, nothing, code, Sketch, inRange, lastFits, WellFormed, cut}
 use Rattle.rules.specs.Packet.{bytes, number, allBytes, allNumbers, sumsAt, packetLength, packet, sumsIn, sumsOf, sketchIn}
-use Rattle.rules.specs.Calls.{Outcome, given, unless, packed, writeWithHint, write, read}
+use Rattle.rules.specs.Calls.{Outcome, given, unless, refusalOf, packed, writeWithHint, write, read}
+use Rattle.rules.specs.History.{HasLast}
 use Rattle.rules.proofs.Field.{residue-below}
 use Rattle.rules.proofs.Each.{take-below, drop-below, below-every, every-below}
 use Rattle.rules.proofs.WellFormed.{in-range-parts}
@@ -235,6 +236,30 @@ module _ (K : Kind) (s : Sketch) (w : WellFormed K s) where
   write-read-back room bs e =
       let there = packed-given K s (s .threshold) room bs (s .last) e in
       ap (read K) (there .1 .1) ∙ read-back K s w (there .0) (there .1 .0) (s .threshold) (omega arith) ∙ ap {B = Outcome Sketch} given cut-to-all
+
+-- ---- an answer without a refusal
+
+-- A packet that is not refused is given, and there is a last code.
+packed-unrefused : (K : Kind) (s : Sketch) (m room : ℕ) (last : Last) → refusalOf (packed K s last m room) ≡ 0
+    → HasLast last × ((bs : List ℕ) × (packed K s last m room ≡ given bs))
+packed-unrefused K s m room nothing e = absurd (omega arith)
+packed-unrefused K s m room (code x) e = by-test (leb (packetLength K m) room) e
+  where
+    by-test : (fits : Bool) → refusalOf (unless {A = List ℕ} fits 5 (given (packet K s x m))) ≡ 0
+        → Unit {0} × ((bs : List ℕ) × (unless fits 5 (given (packet K s x m)) ≡ given bs))
+    by-test true z = (tt, (packet K s x m, refl))
+    by-test false z = absurd (omega arith)
+
+module _ (K : Kind) (s : Sketch) (room : ℕ) where
+  -- A writing with a hint that is not refused gives bytes, and there is a last code.
+  pub hint-unrefused : (h : ℕ) → refusalOf (writeWithHint K true s h room) ≡ 0 → HasLast (s .last) × ((bs : List ℕ) × (writeWithHint K true s h room ≡ given bs))
+  unfolding writeWithHint
+  hint-unrefused h e = packed-unrefused K s (min (s .threshold) h) room (s .last) e
+
+  -- So does one without a hint.
+  pub write-unrefused : refusalOf (write K true s room) ≡ 0 → HasLast (s .last) × ((bs : List ℕ) × (write K true s room ≡ given bs))
+  unfolding write
+  write-unrefused e = packed-unrefused K s (s .threshold) room (s .last) e
 
 -- ---- a packet read and written again
 

@@ -1,4 +1,4 @@
--- The cases from the bench, as one table: what is computed from the rules, beside what the paper says.
+-- The cases from the bench, as one table: what is computed from the rules, beside what the requirements say.
 -- Assumes nothing.
 use Prim.Native.Nat.{ℕ, zero, suc}
 use mathlib.Core.Bool.{Bool, true, false, _&&_}
@@ -12,7 +12,7 @@ use Rattle.rules.specs.Sketch.{Sketch, Last, nothing, code, fresh, inser
 use Rattle.rules.specs.Calls as calls
 use Rattle.rules.specs.Calls.{Outcome, refused, given}
 
--- A case: the numbers that the rules give, and the numbers that the paper gives.
+-- A case: the numbers that the rules give, and the numbers that the requirements give.
 pub record Case : Type 0 where
   pub computed : List ℕ
   pub said : List ℕ

@@ -1,1 +1,1 @@
-// Document 01 as definitions, in specs/, and what is proved of them, in proofs/.
+// The requirements as definitions, in specs/, and what is proved of them, in proofs/.

@@ -7,7 +7,7 @@ use lib.Seq.{length-take-le}
 use borrow.Author.Needs.{needs}
 use Rattle.rules.specs.Desk.{mostLines}
 use Rattle.power_sum32.proofs.power_sum.PowerSumQuackU32.sub_assign.Reads as sub-assign
-use Rattle.power_sum32.proofs.power_sum.PowerSumQuackU32.decode_with_log.Reads as decode-with-log
+use Rattle.decoder32.proofs.decode_with_log.Reads as decode-with-log
 use Rattle.desk_text.proofs.Decision.{Listed, listed-given, listed-few, listed-within, listed-taken, subtraction-refused, decoding-refused, decoding-listed}
 use Rattle.desk_text.proofs.writer.write_refused.Reads as write-refused
 use Rattle.desk_text.proofs.writer.write_found.Reads as write-found

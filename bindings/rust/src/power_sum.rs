@@ -1,0 +1,372 @@
+//! The sketch.
+use crate::boundary::{self, Words, COUNT, HAS_LAST, LAST, PLACES, SUMS, THRESHOLD, WORDS};
+use crate::refusal::Refusal;
+use std::fmt;
+
+/// A sketch of a multiset of 32-bit values: as many sums of powers as its threshold, a count, and the last value
+/// inserted, where it is known.
+///
+/// A value of the prime [`MODULUS`](crate::field::MODULUS) or more counts as its residue, the value less the prime.
+///
+/// # Examples
+///
+/// ```
+/// use eddybridge::PowerSumQuackU32;
+///
+/// # fn main() -> Result<(), eddybridge::Refusal> {
+/// let mut sketch = PowerSumQuackU32::new(3)?;
+/// sketch.insert(10)?;
+/// sketch.insert(12)?;
+/// assert_eq!(sketch.decode_with_log(&[1, 2, 10, 12, 10])?, [10, 12, 10]);
+/// # Ok(())
+/// # }
+/// ```
+#[derive(Clone, PartialEq, Eq)]
+pub struct PowerSumQuackU32 {
+    words: Words,
+}
+
+impl PowerSumQuackU32 {
+    const BLANK: Self = Self { words: [0; WORDS] };
+
+    /// Makes an empty sketch that can decode up to `threshold` values.
+    ///
+    /// # Errors
+    ///
+    /// [`Refusal::ThresholdOutOfRange`] where `threshold` is 0 or above 32.
+    ///
+    /// # Examples
+    ///
+    /// ```
+    /// use eddybridge::{PowerSumQuackU32, Refusal};
+    ///
+    /// # fn main() -> Result<(), Refusal> {
+    /// let sketch = PowerSumQuackU32::new(20)?;
+    /// assert_eq!(sketch.threshold(), 20);
+    /// assert_eq!(sketch.count(), 0);
+    /// assert_eq!(sketch.last_value(), None);
+    /// assert_eq!(PowerSumQuackU32::new(0), Err(Refusal::ThresholdOutOfRange));
+    /// # Ok(())
+    /// # }
+    /// ```
+    pub fn new(threshold: usize) -> Result<Self, Refusal> {
+        let mut made = Self::BLANK;
+        boundary::new(threshold, &mut made.words)?;
+        Ok(made)
+    }
+
+    /// Inserts `value`. The count grows by 1 modulo 2^32, and the last value becomes the residue of `value`.
+    ///
+    /// # Errors
+    ///
+    /// None is given for a sketch of this type.
+    ///
+    /// # Examples
+    ///
+    /// ```
+    /// use eddybridge::PowerSumQuackU32;
+    ///
+    /// # fn main() -> Result<(), eddybridge::Refusal> {
+    /// let mut sketch = PowerSumQuackU32::new(2)?;
+    /// sketch.insert(7)?;
+    /// sketch.insert(4294967295)?;
+    /// assert_eq!(sketch.count(), 2);
+    /// assert_eq!(sketch.last_value(), Some(4));
+    /// # Ok(())
+    /// # }
+    /// ```
+    pub fn insert(&mut self, value: u32) -> Result<(), Refusal> {
+        boundary::insert(&mut self.words, value)
+    }
+
+    /// Removes `value`, whether or not it was inserted. The count falls by 1 modulo 2^32. The last value becomes
+    /// unknown where it equals `value` as given, unreduced.
+    ///
+    /// # Errors
+    ///
+    /// None is given for a sketch of this type.
+    ///
+    /// # Examples
+    ///
+    /// ```
+    /// use eddybridge::PowerSumQuackU32;
+    ///
+    /// # fn main() -> Result<(), eddybridge::Refusal> {
+    /// let mut sketch = PowerSumQuackU32::new(2)?;
+    /// sketch.insert(7)?;
+    /// sketch.insert(9)?;
+    /// sketch.remove(7)?;
+    /// assert_eq!(sketch.last_value(), Some(9));
+    /// sketch.remove(9)?;
+    /// assert_eq!(sketch.last_value(), None);
+    /// assert_eq!(sketch.count(), 0);
+    /// # Ok(())
+    /// # }
+    /// ```
+    pub fn remove(&mut self, value: u32) -> Result<(), Refusal> {
+        boundary::remove(&mut self.words, value)
+    }
+
+    /// Subtracts `rhs` from this sketch. The last value becomes unknown.
+    ///
+    /// Where every value of `rhs` is also in this sketch, as often or more, the difference is the sketch of the values
+    /// that `rhs` lacks.
+    ///
+    /// # Errors
+    ///
+    /// [`Refusal::ThresholdsDiffer`] where the thresholds differ.
+    ///
+    /// # Examples
+    ///
+    /// ```
+    /// use eddybridge::{PowerSumQuackU32, Refusal};
+    ///
+    /// # fn main() -> Result<(), Refusal> {
+    /// let mut sent = PowerSumQuackU32::new(4)?;
+    /// let mut received = PowerSumQuackU32::new(4)?;
+    /// for value in [30, 31, 32] {
+    ///     sent.insert(value)?;
+    /// }
+    /// received.insert(31)?;
+    /// sent.sub_assign(&received)?;
+    /// assert_eq!(sent.decode_with_log(&[30, 31, 32])?, [30, 32]);
+    ///
+    /// let other = PowerSumQuackU32::new(5)?;
+    /// assert_eq!(sent.sub_assign(&other), Err(Refusal::ThresholdsDiffer));
+    /// # Ok(())
+    /// # }
+    /// ```
+    pub fn sub_assign(&mut self, rhs: &Self) -> Result<(), Refusal> {
+        boundary::sub_assign(&mut self.words, &rhs.words)
+    }
+
+    /// The difference of this sketch and `rhs`, with the smaller of the two thresholds and no last value.
+    ///
+    /// # Errors
+    ///
+    /// None is given for sketches of this type.
+    ///
+    /// # Examples
+    ///
+    /// ```
+    /// use eddybridge::PowerSumQuackU32;
+    ///
+    /// # fn main() -> Result<(), eddybridge::Refusal> {
+    /// let mut sent = PowerSumQuackU32::new(8)?;
+    /// sent.insert(5)?;
+    /// let received = PowerSumQuackU32::new(2)?;
+    /// let missing = sent.sub(&received)?;
+    /// assert_eq!(missing.threshold(), 2);
+    /// assert_eq!(missing.decode_with_log(&[4, 5])?, [5]);
+    /// # Ok(())
+    /// # }
+    /// ```
+    pub fn sub(&self, rhs: &Self) -> Result<Self, Refusal> {
+        let mut difference = Self::BLANK;
+        boundary::sub(&self.words, &rhs.words, &mut difference.words)?;
+        Ok(difference)
+    }
+
+    /// The coefficients a1 to an, n being the count, of the polynomial whose roots are the values, x^n + a1·x^(n-1) +
+    /// ... + an. They are residues.
+    ///
+    /// # Errors
+    ///
+    /// [`Refusal::CountAboveThreshold`] where the count is above the threshold.
+    ///
+    /// # Examples
+    ///
+    /// ```
+    /// use eddybridge::{field, PowerSumQuackU32};
+    ///
+    /// # fn main() -> Result<(), eddybridge::Refusal> {
+    /// let mut sketch = PowerSumQuackU32::new(3)?;
+    /// sketch.insert(10)?;
+    /// sketch.insert(12)?;
+    /// assert_eq!(sketch.to_coeffs()?, [field::neg(22), 120]); // x^2 - 22x + 120
+    /// # Ok(())
+    /// # }
+    /// ```
+    pub fn to_coeffs(&self) -> Result<Vec<u32>, Refusal> {
+        let mut coeffs = [0; PLACES];
+        let n = boundary::to_coeffs(&self.words, &mut coeffs)?;
+        Ok(coeffs[..n].to_vec())
+    }
+
+    /// The entries of `log` that are roots of the polynomial of [`to_coeffs`](Self::to_coeffs), as they stand in the
+    /// log, in its order. At count 0 the list is empty.
+    ///
+    /// As long as no value has come out more often than it went in, these are the entries that are in the sketch, and
+    /// no others. An entry is listed as often as it stands in the log, however often it is in the sketch.
+    ///
+    /// # Errors
+    ///
+    /// [`Refusal::CountAboveThreshold`] where the count is above the threshold.
+    ///
+    /// # Examples
+    ///
+    /// ```
+    /// use eddybridge::{PowerSumQuackU32, Refusal};
+    ///
+    /// # fn main() -> Result<(), Refusal> {
+    /// let mut sketch = PowerSumQuackU32::new(1)?;
+    /// sketch.insert(10)?;
+    /// assert_eq!(sketch.decode_with_log(&[10, 11, 10])?, [10, 10]);
+    /// sketch.insert(11)?;
+    /// assert_eq!(sketch.decode_with_log(&[10, 11, 10]), Err(Refusal::CountAboveThreshold));
+    /// # Ok(())
+    /// # }
+    /// ```
+    pub fn decode_with_log(&self, log: &[u32]) -> Result<Vec<u32>, Refusal> {
+        let mut found = vec![0; log.len()];
+        let n = boundary::decode_with_log(&self.words, log, &mut found)?;
+        found.truncate(n);
+        Ok(found)
+    }
+
+    /// Writes the sketch as a packet to the front of `buf`, and answers its length, 8 + 4·threshold. Bytes beyond it
+    /// stay.
+    ///
+    /// The packet is little-endian on every machine: the count, the last value, and the sums, four bytes each.
+    ///
+    /// # Errors
+    ///
+    /// - [`Refusal::NoLastValue`] where the sketch has no last value;
+    /// - [`Refusal::BufferTooShort`] where `buf` is shorter than the packet.
+    ///
+    /// # Examples
+    ///
+    /// ```
+    /// use eddybridge::PowerSumQuackU32;
+    ///
+    /// # fn main() -> Result<(), eddybridge::Refusal> {
+    /// let mut sketch = PowerSumQuackU32::new(2)?;
+    /// sketch.insert(1)?;
+    /// sketch.insert(10)?;
+    /// let mut buf = [0; 1500];
+    /// let length = sketch.serialize(&mut buf)?;
+    /// assert_eq!(buf[..length], [2, 0, 0, 0, 10, 0, 0, 0, 11, 0, 0, 0, 101, 0, 0, 0]);
+    /// # Ok(())
+    /// # }
+    /// ```
+    pub fn serialize(&self, buf: &mut [u8]) -> Result<usize, Refusal> {
+        boundary::serialize(&self.words, buf)
+    }
+
+    /// Writes the sketch as [`serialize`](Self::serialize) does, with the first `num_missing` sums where these are
+    /// fewer than the threshold. The count is written unchanged.
+    ///
+    /// # Errors
+    ///
+    /// Those of [`serialize`](Self::serialize).
+    ///
+    /// # Examples
+    ///
+    /// ```
+    /// use eddybridge::PowerSumQuackU32;
+    ///
+    /// # fn main() -> Result<(), eddybridge::Refusal> {
+    /// let mut sketch = PowerSumQuackU32::new(2)?;
+    /// sketch.insert(10)?;
+    /// let mut buf = [0; 16];
+    /// assert_eq!(sketch.serialize_with_hint(&mut buf, 0)?, 8);
+    /// assert_eq!(sketch.serialize_with_hint(&mut buf, 1)?, 12);
+    /// assert_eq!(sketch.serialize_with_hint(&mut buf, 5)?, 16);
+    /// # Ok(())
+    /// # }
+    /// ```
+    pub fn serialize_with_hint(&self, buf: &mut [u8], num_missing: usize) -> Result<usize, Refusal> {
+        boundary::serialize_with_hint(&self.words, buf, num_missing)
+    }
+
+    /// Reads a packet. The threshold is the number of sums in `buf`, so `buf` has to end where the packet does; up to
+    /// three bytes that make no whole sum are ignored.
+    ///
+    /// # Errors
+    ///
+    /// - [`Refusal::PacketTooShort`] where `buf` has fewer than 8 bytes;
+    /// - [`Refusal::SumsOutOfRange`] where it has no sum, or more than 32;
+    /// - [`Refusal::NotReduced`] where a sum is [`MODULUS`](crate::field::MODULUS) or more.
+    ///
+    /// # Examples
+    ///
+    /// ```
+    /// use eddybridge::{PowerSumQuackU32, Refusal};
+    ///
+    /// # fn main() -> Result<(), Refusal> {
+    /// let mut sketch = PowerSumQuackU32::new(2)?;
+    /// sketch.insert(10)?;
+    /// let mut buf = [0; 16];
+    /// let length = sketch.serialize(&mut buf)?;
+    /// assert_eq!(PowerSumQuackU32::deserialize(&buf[..length])?, sketch);
+    /// assert_eq!(PowerSumQuackU32::deserialize(&buf[..8]), Err(Refusal::SumsOutOfRange));
+    /// # Ok(())
+    /// # }
+    /// ```
+    pub fn deserialize(buf: &[u8]) -> Result<Self, Refusal> {
+        let mut read = Self::BLANK;
+        boundary::deserialize(buf, &mut read.words)?;
+        Ok(read)
+    }
+
+    /// The number of sums, and so the greatest number of values that can be decoded.
+    ///
+    /// # Examples
+    ///
+    /// ```
+    /// # fn main() -> Result<(), eddybridge::Refusal> {
+    /// assert_eq!(eddybridge::PowerSumQuackU32::new(32)?.threshold(), 32);
+    /// # Ok(())
+    /// # }
+    /// ```
+    pub fn threshold(&self) -> usize {
+        self.words[THRESHOLD] as usize
+    }
+
+    /// The number of values inserted less the number removed, modulo 2^32.
+    ///
+    /// # Examples
+    ///
+    /// ```
+    /// # fn main() -> Result<(), eddybridge::Refusal> {
+    /// let mut sketch = eddybridge::PowerSumQuackU32::new(1)?;
+    /// sketch.remove(1)?;
+    /// assert_eq!(sketch.count(), 4294967295);
+    /// # Ok(())
+    /// # }
+    /// ```
+    pub fn count(&self) -> u32 {
+        self.words[COUNT]
+    }
+
+    /// The residue of the value that was inserted last, where it is known. Removing it and subtracting make it unknown.
+    ///
+    /// # Examples
+    ///
+    /// ```
+    /// # fn main() -> Result<(), eddybridge::Refusal> {
+    /// let mut sketch = eddybridge::PowerSumQuackU32::new(1)?;
+    /// assert_eq!(sketch.last_value(), None);
+    /// sketch.insert(3)?;
+    /// assert_eq!(sketch.last_value(), Some(3));
+    /// # Ok(())
+    /// # }
+    /// ```
+    pub fn last_value(&self) -> Option<u32> {
+        (self.words[HAS_LAST] == 1).then_some(self.words[LAST])
+    }
+
+    fn power_sums(&self) -> &[u32] {
+        &self.words[SUMS..][..self.threshold()]
+    }
+}
+
+impl fmt::Debug for PowerSumQuackU32 {
+    fn fmt(&self, f: &mut fmt::Formatter<'_>) -> fmt::Result {
+        f.debug_struct("PowerSumQuackU32")
+            .field("power_sums", &self.power_sums())
+            .field("last_value", &self.last_value())
+            .field("count", &self.count())
+            .finish()
+    }
+}

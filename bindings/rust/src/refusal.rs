@@ -1,0 +1,119 @@
+//! Why a call refuses.
+use std::error::Error;
+use std::fmt;
+
+/// Why a call refuses what it was given. A refused call changes nothing.
+///
+/// Every refusal has a number, the same at each boundary of the project: here, in C, and in the output of the desk
+/// program. Later versions may add refusals.
+///
+/// # Examples
+///
+/// ```
+/// use eddybridge::{PowerSumQuackU32, Refusal};
+///
+/// let refusal = PowerSumQuackU32::new(33).unwrap_err();
+/// assert_eq!(refusal, Refusal::ThresholdOutOfRange);
+/// assert_eq!(refusal.number(), 1);
+/// assert_eq!(refusal.to_string(), "the threshold is 0 or above 32 (refusal 1)");
+/// ```
+#[derive(Clone, Copy, Debug, PartialEq, Eq, Hash)]
+#[non_exhaustive]
+#[repr(u32)]
+pub enum Refusal {
+    /// 1: a sketch is to be made with a threshold of 0 or above 32.
+    ThresholdOutOfRange = 1,
+    /// 2: the thresholds of a subtraction in place differ.
+    ThresholdsDiffer = 2,
+    /// 3: a sketch without a last value is to be written.
+    NoLastValue = 3,
+    /// 4: coefficients or a decoding are asked of a sketch whose count is above its threshold.
+    CountAboveThreshold = 4,
+    /// 5: the buffer to write into is shorter than what is to be written. For coefficients and decodings this crate
+    /// lends a long enough buffer of its own.
+    BufferTooShort = 5,
+    /// 6: the packet to read has fewer than 8 bytes.
+    PacketTooShort = 6,
+    /// 7: the packet to read has no sum, or more than 32.
+    SumsOutOfRange = 7,
+    /// 8: a sum of the packet to read, or a coefficient given to [`eval`](crate::eval), is the modulus or more.
+    NotReduced = 8,
+    /// 9: an input line of the desk program is not as prescribed. No call of this crate gives it.
+    BadLine = 9,
+    /// 10: the log of the desk program has an 8,193rd line. No call of this crate gives it.
+    LogTooLong = 10,
+    /// 11: a polynomial without coefficients is to be evaluated.
+    NoCoefficient = 11,
+    /// 12: a sketch is not well formed. Every [`PowerSumQuackU32`](crate::PowerSumQuackU32) is, so no call of this
+    /// crate gives it.
+    NotWellFormed = 12,
+}
+
+impl Refusal {
+    const ALL: [Self; 12] = [
+        Self::ThresholdOutOfRange,
+        Self::ThresholdsDiffer,
+        Self::NoLastValue,
+        Self::CountAboveThreshold,
+        Self::BufferTooShort,
+        Self::PacketTooShort,
+        Self::SumsOutOfRange,
+        Self::NotReduced,
+        Self::BadLine,
+        Self::LogTooLong,
+        Self::NoCoefficient,
+        Self::NotWellFormed,
+    ];
+
+    /// The refusal's number.
+    ///
+    /// # Examples
+    ///
+    /// ```
+    /// use eddybridge::Refusal;
+    ///
+    /// assert_eq!(Refusal::CountAboveThreshold.number(), 4);
+    /// ```
+    pub fn number(self) -> u32 {
+        self as u32
+    }
+
+    /// The refusal of a number, as the desk program prints it after `refusal=`. 0 and unknown numbers have none.
+    ///
+    /// # Examples
+    ///
+    /// ```
+    /// use eddybridge::Refusal;
+    ///
+    /// assert_eq!(Refusal::from_number(9), Some(Refusal::BadLine));
+    /// assert_eq!(Refusal::from_number(0), None);
+    /// ```
+    pub fn from_number(number: u32) -> Option<Self> {
+        Self::ALL.into_iter().find(|refusal| refusal.number() == number)
+    }
+
+    fn reason(self) -> &'static str {
+        match self {
+            Self::ThresholdOutOfRange => "the threshold is 0 or above 32",
+            Self::ThresholdsDiffer => "the thresholds differ",
+            Self::NoLastValue => "the sketch has no last value",
+            Self::CountAboveThreshold => "the count is above the threshold",
+            Self::BufferTooShort => "the buffer is too short",
+            Self::PacketTooShort => "the packet has fewer than 8 bytes",
+            Self::SumsOutOfRange => "the packet has no sum or more than 32",
+            Self::NotReduced => "a sum or a coefficient is the modulus or more",
+            Self::BadLine => "a line is not as prescribed",
+            Self::LogTooLong => "the log has more than 8,192 lines",
+            Self::NoCoefficient => "the polynomial has no coefficient",
+            Self::NotWellFormed => "the sketch is not well formed",
+        }
+    }
+}
+
+impl fmt::Display for Refusal {
+    fn fmt(&self, f: &mut fmt::Formatter<'_>) -> fmt::Result {
+        write!(f, "{} (refusal {})", self.reason(), self.number())
+    }
+}
+
+impl Error for Refusal {}

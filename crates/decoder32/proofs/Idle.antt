@@ -1,0 +1,71 @@
+-- Idle programs: no contract of evaluation, coefficients and decoding is met by refusing everything or by a fixed list, shown by an input at which the
+-- rule's answer differs.
+-- Assumes nothing.
+use Prim.Native.Nat.{ℕ, suc}
+use mathlib.Core.Path.{_≡_, sym, _∙_, ap, ap₂}
+use mathlib.Core.List.{List, [], _∷_}
+use native.Mathlib.Omega.{arith}
+use lib.ListN.{length, getD}
+use contract.Lifetimes.{Lfts}
+use denote.Ref.{RefT, now}
+use Rattle.numbers.specs.Power.{powerWithin, powerMod}
+use Rattle.numbers.specs.Table.{every}
+use Rattle.modint32.specs.declared.Code.{Code}
+use Rattle.rules.specs.Kind.{kind32}
+use Rattle.rules.specs.Sketch as sketch
+use Rattle.rules.specs.Sketch.{fresh, each, wellFormed}
+use Rattle.rules.specs.Decode as decoding
+use Rattle.rules.specs.Decode.{newestFirst}
+use Rattle.rules.specs.Calls as calls
+use Rattle.rules.specs.Calls.{refusalOf, written}
+use Rattle.power_sum32.specs.declared.power_sum.PowerSumQuackU32.{PowerSumQuackU32}
+use Rattle.power_sum32.specs.declared.power_sum.Number.{Number}
+use Rattle.power_sum32.specs.Answers.{built}
+use Rattle.decoder32.specs.declared.evaluator.Evaluated.{Evaluated}
+use Rattle.decoder32.specs.Answers.{coefficientsOf, evalOf, decodeOf}
+use Rattle.decoder32.proofs.evaluator.eval.Reads as eval
+use Rattle.decoder32.proofs.to_coeffs.Reads as to-coeffs
+use Rattle.decoder32.proofs.decode_with_log.Reads as decode-with-log
+
+unfoldable pub ten : Code
+ten = record { 0 = 10 }
+
+-- A sketch of threshold 3 with the codes 10 and 12 in it.
+unfoldable pub both : PowerSumQuackU32
+both = built (sketch.insert kind32 (sketch.insert kind32 (fresh 3) 10) 12)
+
+-- ---- refusing everything
+
+pub eval-refusing-falls : (κs : Lfts 1) (coeffs coeffs₁ : RefT (List ℕ)) (r : Evaluated) (n : ℕ) → now coeffs ≡ 1 ∷ [] → r .refusal ≡ suc n
+    → eval.Post κs (coeffs, (ten, tt)) r (coeffs₁, (ten, tt)) → ⊥
+unfolding ten evalOf calls.evaluate decoding.evaluate every
+eval-refusing-falls κs coeffs coeffs₁ r n given-coeffs e p =
+    let z : suc n ≡ 0 = sym e ∙ ap (λ (a : Evaluated). a .refusal) (p ∙ ap (λ (l : List ℕ). evalOf l 10) given-coeffs) in omega arith
+
+pub to-coeffs-refusing-falls : (κs : Lfts 1) (coeffs coeffs₁ : RefT (List ℕ)) (r : Number) (n : ℕ) → now coeffs ≡ 0 ∷ 0 ∷ [] → r .refusal ≡ suc n
+    → to-coeffs.Post κs (both, (coeffs, tt)) r (both, (coeffs₁, tt)) → ⊥
+unfolding both sketch.insert fresh each every wellFormed coefficientsOf calls.coefficients
+to-coeffs-refusing-falls κs coeffs coeffs₁ r n lent e p =
+    let z : suc n ≡ 0 = sym e ∙ ap (λ (a : Number). a .refusal) (p .0) ∙ ap (λ (l : List ℕ). refusalOf (coefficientsOf both (length l))) lent in omega arith
+
+-- Decoding, of the log 1, 10 into a buffer of two places.
+module _ (κs : Lfts 2) (log out log₁ out₁ : RefT (List ℕ)) (r : Number) (the-log : now log ≡ 1 ∷ 10 ∷ []) (lent : now out ≡ 0 ∷ 0 ∷ [])
+    (p : decode-with-log.Post κs (both, (log, (out, tt))) r (both, (log₁, (out₁, tt)))) where
+  pub decode-refusing-falls : (n : ℕ) → r .refusal ≡ suc n → ⊥
+  unfolding both sketch.insert fresh each every wellFormed decodeOf calls.decode
+  decode-refusing-falls n e =
+      let z : suc n ≡ 0 = sym e ∙ ap (λ (a : Number). a .refusal) (p .0) ∙ ap₂ (λ (l o : List ℕ). refusalOf (decodeOf both l (length o))) the-log lent in omega arith
+
+  -- ---- a fixed list
+
+  buffer : now out₁ ≡ 10 ∷ 0 ∷ []
+  unfolding both sketch.insert fresh each every wellFormed decodeOf calls.decode decoding.decode decoding.coefficients decoding.evaluate newestFirst powerMod powerWithin
+  buffer = p .1 ∙ ap₂ (λ (l o : List ℕ). written (decodeOf both l (length o)) o) the-log lent
+
+  -- The empty list leaves the buffer as it was.
+  pub empty-list-falls : now out₁ ≡ now out → ⊥
+  empty-list-falls e = let z : _≡_ {A = ℕ} 0 10 = ap (λ (l : List ℕ). getD l 0 0) (sym lent ∙ sym e ∙ buffer) in omega arith
+
+  -- The whole log fills it.
+  pub whole-log-falls : now out₁ ≡ now log → ⊥
+  whole-log-falls e = let z : _≡_ {A = ℕ} 1 10 = ap (λ (l : List ℕ). getD l 0 0) (sym the-log ∙ sym e ∙ buffer) in omega arith

@@ -1,0 +1,5 @@
+-- What is proved of the calls beside their contracts, a file for each matter.
+pub mod Lists
+pub mod Chain
+pub mod Determined
+pub mod Idle

@@ -1,0 +1,2 @@
+-- The answers of decoding beside the rules.
+pub mod Answers

@@ -1,0 +1,2 @@
+-- The answers of packets beside the rules.
+pub mod Answers

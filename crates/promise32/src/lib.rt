@@ -1,0 +1,1 @@
+// The promise for the 32-bit calls that run: see proofs/Promise.antt.
