@@ -9,25 +9,23 @@ use native.Mathlib.Omega.{arith}
 use lib.Dec.{eqb, leb, ltb}
 use lib.ListN.{length, getD, take, set, length-append}
 use lib.Seq.{take-suc-set}
-use borrow.Author.Tests.{ltb-true, le-leb, eq-eqb}
+use borrow.Author.Tests.{ltb-true, le-leb}
 use Rattle.rules.specs.Kind.{kind32}
 use Rattle.rules.specs.Sketch as sketch
 use Rattle.rules.specs.Sketch.{Sketch, WellFormed, inRange, subtract}
 use Rattle.rules.specs.Calls as calls
-use Rattle.rules.specs.Calls.{Outcome, refused, given, unless}
-use Rattle.rules.specs.Lines.{LF, greatestNumber, isDigit, cut, parsed}
-use Rattle.rules.specs.Desk.{mostLines, Seen, unbegun, logs, gots, stopped, next, closed, sketchOfCodes, Report, reported, decided, outcome}
+use Rattle.rules.specs.Calls.{given, unless}
+use Rattle.rules.specs.Lines.{LF, greatestNumber, isDigit, parsed}
+use Rattle.rules.specs.Desk.{mostLines, Seen, unbegun, logs, gots, stopped, next, closed, sketchOfCodes, decided, outcome}
 use Rattle.rules.specs.Text.{printed, deskAnswer, fitting}
 use Rattle.rules.proofs.WellFormed.{fresh-well-formed, insert-well-formed, subtract-well-formed, in-range-parts}
 use Rattle.rules.proofs.Desk as rules
 use Rattle.rules.proofs.Desk.{State, stateAfter, read-after}
-use Rattle.power_sum32.specs.declared.power_sum.PowerSumQuackU32.{PowerSumQuackU32}
 use Rattle.power_sum32.specs.declared.power_sum.Answer.{Answer}
 use Rattle.power_sum32.specs.Answers.{built, empty, answered, sketchAnswer, newOf, insertOf, subAssignOf}
 use Rattle.decoder32.specs.Answers.{decodeOf}
 use Rattle.power_sum32.proofs.Chain.{insert-chain, sub-assign-chain}
 use Rattle.decoder32.proofs.Chain.{decode-chain}
-use Rattle.desk_text.specs.declared.reader.Key.{Key}
 use Rattle.desk_text.specs.declared.reader.Key.the-variants.{Threshold, Log, Got}
 use Rattle.desk_text.specs.declared.reader.Line.{Line}
 use Rattle.desk_text.specs.declared.reader.Line.the-variants.{Fresh, Word, Value, Bad}

@@ -1,6 +1,6 @@
 -- A line read byte by byte says what the whole line says.
 -- Assumes nothing.
-use Prim.Native.Nat.{ℕ, zero, suc, _+_, _-_, _*_, _≤_, _<_}
+use Prim.Native.Nat.{ℕ, _+_, _-_, _*_, _≤_, _<_}
 use mathlib.Core.Path.{_≡_, refl, sym, _∙_}
 use mathlib.Core.Bool.{Bool, true, false, cond, _&&_}
 use mathlib.Core.List.{List, [], _∷_, _++_, foldl, foldl-append}
@@ -12,7 +12,7 @@ use lib.Seq.{drop-cons}
 use borrow.Author.Tests.{ne-eqb, eqb-true, eqb-false, ltb-true, ltb-false, leb-true}
 use Rattle.rules.specs.Kind.{kind32}
 use Rattle.rules.specs.Lines as rules
-use Rattle.rules.specs.Lines.{thresholdWord, logWord, gotWord, greatestNumber, isDigit, wellBegun, some, none, number, threshold, log, got, bad, valued, keyed, orElse, parsed}
+use Rattle.rules.specs.Lines.{thresholdWord, logWord, greatestNumber, isDigit, wellBegun, number, threshold, log, got, bad, valued, keyed, orElse, parsed}
 use Rattle.rules.proofs.Desk.{further, alone, number-by-digits}
 use Rattle.rules.proofs.Each.{and-first}
 use Rattle.desk_text.specs.declared.reader.Key.{Key}

@@ -2,7 +2,7 @@
 -- What a call answers is whatever its contract allows.
 -- Assumes nothing.
 use Prim.Native.Nat.{ℕ, _≤_, _<_}
-use mathlib.Core.Path.{_≡_, refl, ap, _∙_}
+use mathlib.Core.Path.{_≡_, ap, _∙_}
 use mathlib.Core.List.{List, [], _++_}
 use lib.Dec.{lit≤}
 use lib.ListN.{length, drop}
@@ -10,16 +10,14 @@ use borrow.Author.Tests.{le-leb, lt-leb}
 use contract.Lifetimes.{Lfts}
 use denote.Ref.{RefT, now}
 use Rattle.rules.specs.Kind.{kind32}
-use Rattle.rules.specs.Calls.{Outcome, written}
 use Rattle.rules.specs.Desk.{mostLines}
 use Rattle.rules.specs.Text.{deskAnswer, fitting}
 use Rattle.rules.proofs.Desk.{stateAfter}
 use Rattle.rules.proofs.Room.{answer-short}
 use Rattle.power_sum32.specs.declared.power_sum.Number.{Number}
-use Rattle.power_sum32.specs.Answers.{numbered}
 use Rattle.desk_text.specs.declared.reader.Reading.{Reading}
 use Rattle.desk_text.specs.declared.reader.Fed.{Fed}
-use Rattle.desk_text.specs.Reader.{standing, startOf, feedAnswer, feedLog}
+use Rattle.desk_text.specs.Reader.{standing, feedAnswer}
 use Rattle.desk_text.specs.Answer.{finishOf}
 use Rattle.desk_text.proofs.Meaning.{Tied, tied-start, tied-feed, tied-finish}
 use Rattle.desk_text.proofs.reader.start.Reads as start
@@ -52,13 +50,13 @@ module _ {bs : List ℕ} {r : Reading} {n : Number} (κs : Lfts 2) (log out log�
       → (n ≡ record { refusal = 0; value = length (deskAnswer kind32 bs) }) × (now out′ ≡ deskAnswer kind32 bs ++ drop (length (deskAnswer kind32 bs)) (now out))
   answered l =
       let fits = le-leb (length (deskAnswer kind32 bs)) (length (now out)) l in
-      (p .0 ∙ rw (outcome, fits), p .1 ∙ rw (outcome, fits))
+      (p .0 ∙ rw (outcome, fits), p .1 .0 ∙ rw (outcome, fits))
 
   -- Where it is too short, 5 is answered and no byte is written.
   pub too-short : length (now out) < length (deskAnswer kind32 bs) → (n ≡ record { refusal = 5; value = 0 }) × (now out′ ≡ now out)
   too-short l =
       let short = lt-leb (length (deskAnswer kind32 bs)) (length (now out)) l in
-      (p .0 ∙ rw (outcome, short), p .1 ∙ rw (outcome, short))
+      (p .0 ∙ rw (outcome, short), p .1 .0 ∙ rw (outcome, short))
 
 -- A buffer of 262,144 bytes is long enough for every input.
 pub long-enough : (input : List ℕ) → length (deskAnswer kind32 input) ≤ 262144

@@ -7,16 +7,16 @@ use native.Mathlib.Nat.{add-zero}
 use native.Mathlib.Numerals.{add-one}
 use native.Mathlib.Omega.{arith}
 use lib.ListN.{length, getD, take, drop, set, length-append}
-use lib.Seq.{take-suc, take-all, sets, sets-eq, length-sets}
+use lib.Seq.{take-suc, take-all, length-take-le, sets, sets-eq, length-sets}
 use borrow.Author.Tests.{le-leb, lt-leb}
-use Rattle.rules.specs.Calls.{refused, given, written}
+use Rattle.rules.specs.Calls.{Outcome, refused, given, written}
 use Rattle.rules.specs.Lines.{thresholdWord}
 use Rattle.rules.specs.Text.{decimal, refusalWord, countWord, foundWord, missingWord, line, lines, printed, fitting}
 use Rattle.rules.proofs.Text.{decimal-digit, decimal-digits, decimal-short, lines-more, lines-part}
 use Rattle.power_sum32.specs.declared.power_sum.Number.{Number}
 use Rattle.power_sum32.specs.Answers.{numbered}
 use Rattle.decoder32.proofs.Lists.{refusal, listing}
-use Rattle.desk_text.specs.Writer.{Put, foundText}
+use Rattle.desk_text.specs.Writer.{Put, foundText, Within}
 
 -- ---- texts one behind the other
 
@@ -210,3 +210,14 @@ module _ (text out : List ℕ) where
   text-short l e =
       let is : fitting text (length out) ≡ refused 5 = rw (lt-leb (length text) (length out) l) in
       refusal e is
+
+-- What is written lies within the buffer.
+written-within : (o : Outcome (List ℕ)) (out : List ℕ) {n : Number} {after : List ℕ} → n ≡ numbered o → after ≡ written o out → n .value ≤ length after
+written-within (refused m) out e f = rw e zero-le
+written-within (given l) out e f = rw (e, f, length-append) (omega arith)
+
+pub and-within : (o : Outcome (List ℕ)) (out : List ℕ) {n : Number} {after : List ℕ} → (n ≡ numbered o) × (after ≡ written o out)
+    → (n ≡ numbered o) × ((after ≡ written o out) × Within (n .value) after)
+and-within o out {n} {after} p =
+    let within = written-within o out (p .0) (p .1) in
+    (p .0, (p .1, (within, sym (length-take-le (n .value) after within))))

@@ -2,7 +2,7 @@
 -- Assumes nothing.
 use Prim.Native.Nat.{ℕ, _+_, _-_, _*_}
 use mathlib.Core.Bool.{cond, _&&_}
-use mathlib.Core.List.{List, [], _∷_, foldl}
+use mathlib.Core.List.{List, foldl}
 use lib.Dec.{eqb, leb, ltb}
 use lib.ListN.{length, getD, set}
 use Rattle.modint32.specs.declared.Code.{Code}

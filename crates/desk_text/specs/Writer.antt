@@ -1,9 +1,9 @@
 -- What the writer's functions leave and answer. Definitions only.
 -- Assumes nothing.
-use Prim.Native.Nat.{ℕ, _+_}
+use Prim.Native.Nat.{ℕ, _+_, _≤_}
 use mathlib.Core.Path.{_≡_}
 use mathlib.Core.List.{List}
-use lib.ListN.{length}
+use lib.ListN.{length, take}
 use lib.Seq.{sets}
 use Rattle.rules.specs.Calls.{refused, given}
 use Rattle.rules.specs.Text.{printed}
@@ -18,3 +18,7 @@ refusedText n = printed (refused n)
 
 abbrev pub foundText : ℕ → ℕ → List ℕ → List ℕ
 foundText threshold count found = printed (given (record { threshold = threshold; count = count; found = found }))
+
+-- So many bytes lie at the front of a buffer. The second part follows from the first; a caller that lends `&out[..n]` is asked both.
+abbrev pub Within : ℕ → List ℕ → Type 0
+Within n buffer = (n ≤ length buffer) × (n ≡ length (take n buffer))

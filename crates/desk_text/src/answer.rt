@@ -7,6 +7,7 @@ ghost use Rattle.rules.specs.Kind.{kind32};
 ghost use Rattle.rules.specs.Calls.{written};
 ghost use Rattle.rules.specs.Desk.{mostLines};
 ghost use Rattle.rules.specs.Text.{printed, deskAnswer, fitting};
+ghost use Rattle.desk_text.specs.Writer.{Within};
 ghost use Rattle.desk_text.specs.Answer.{isFresh, decidedOf, settledOf, outcomeOf, finishOf};
 use crate::reader;
 use crate::reader::Desk;
@@ -84,6 +85,7 @@ fn end(r: Reading, log: &[u32], out: &mut [u8]) -> Number
 pub fn finish(r: Reading, log: &[u32], out: &mut [u8]) -> Number
     ensures answer { λ z. ⌜ z ≡ numbered (finishOf r (now (log .entry)) (length (now (out .entry)))) ⌝ }
     ensures text { λ z. ⌜ now (out .exit) ≡ written (finishOf r (now (log .entry)) (length (now (out .entry)))) (now (out .entry)) ⌝ }
+    ensures within { λ z. ⌜ Within (z .value) (now (out .exit)) ⌝ }
 {
     if log.len() < reader::MOST_LINES {
         return writer::too_short();
@@ -99,6 +101,7 @@ pub fn finish(r: Reading, log: &[u32], out: &mut [u8]) -> Number
 pub fn answer(input: &[u8], out: &mut [u8]) -> Number
     ensures answer { λ r. ⌜ r ≡ numbered (fitting (deskAnswer kind32 (now (input .entry))) (length (now (out .entry)))) ⌝ }
     ensures text { λ r. ⌜ now (out .exit) ≡ written (fitting (deskAnswer kind32 (now (input .entry))) (length (now (out .entry)))) (now (out .entry)) ⌝ }
+    ensures within { λ r. ⌜ Within (r .value) (now (out .exit)) ⌝ }
 {
     let mut log = [0u32; 8192];
     let fed = reader::feed(reader::start(), &mut log, input);

@@ -2,7 +2,6 @@
 ghost use mathlib.Core.Path.{_≡_};
 ghost use Prim.Native.Nat.{_+_, _*_, _≤_};
 ghost use lib.ListN.{length};
-ghost use lib.Seq.{sets};
 ghost use Rattle.power_sum32.specs.Answers.{numbered};
 ghost use Rattle.rules.specs.Calls.{written};
 ghost use Rattle.rules.specs.Desk.{mostLines};

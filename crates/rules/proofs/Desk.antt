@@ -2,8 +2,8 @@
 -- Assumes nothing.
 use Prim.Native.Nat.{ℕ, _+_, _-_, _*_, _^_, _≤_, _<_}
 use Prim.Native.String.{String}
-use mathlib.Core.Path.{_≡_, refl, ap, sym, _∙_}
-use mathlib.Core.Bool.{Bool, true, false, cond, not, _&&_}
+use mathlib.Core.Path.{_≡_, refl, ap, _∙_}
+use mathlib.Core.Bool.{Bool, true, false, cond, _&&_}
 use mathlib.Core.List.{List, [], _∷_, _++_, append-nil, append-assoc, foldl}
 use native.Mathlib.Nat.{pow-le-pow-right, le-trans}
 use native.Mathlib.Omega.{arith}
@@ -18,7 +18,7 @@ use Rattle.rules.specs.Calls as calls
 use Rattle.rules.specs.Lines.{bytesOf, LF, Cut, inFront, cut, greatestNumber, isDigit, allDigits, decimalValue, wellBegun, Number, some, none, number, keyed, parsed}
 use Rattle.rules.specs.Desk.{Seen, unbegun, next, allLines, closed, readLines, decided, outcome}
 use Rattle.rules.specs.Text.{decimalWithin, decimal, line, lines, printed, deskAnswer}
-use Rattle.rules.proofs.Each.{and-first, and-second}
+use Rattle.rules.proofs.Each.{and-second}
 
 -- ---- a number, digit by digit
 

@@ -17,7 +17,7 @@ use Rattle.rules.specs.Decode as decoding
 use Rattle.rules.specs.Decode.{evaluate, coefficients, keep}
 use Rattle.rules.specs.Calls as calls
 use Rattle.rules.specs.Calls.{Outcome, refused, given, unless}
-use Rattle.rules.specs.Lines.{Line, threshold, log, got, bad, Number, some, none, wellBegun, allDigits, decimalValue, greatestNumber, number, valued, keyed, orElse, thresholdWord, logWord, gotWord, parsed, Cut, cut}
+use Rattle.rules.specs.Lines.{Line, threshold, log, got, bad, some, none, wellBegun, allDigits, decimalValue, greatestNumber, number, valued, keyed, orElse, thresholdWord, logWord, gotWord, parsed, cut}
 use Rattle.rules.specs.Desk.{mostLines, Seen, unbegun, logs, gots, stopped, next, allLines, closed, readLines, sketchOfCodes, Report, reported, decided, outcome}
 use Rattle.rules.specs.Text.{refusalWord, countWord, foundWord, missingWord, printed, deskAnswer}
 use Rattle.rules.proofs.Each.{and-second}

@@ -7,14 +7,16 @@ use Rattle.desk_text.proofs.answer.settle.Statement.{statement}
 use Rattle.desk_text.proofs.answer.settle.Tie as tie
 
 returns : tie.Need-returns
-returns c = let w = c .before .before in
+returns c =
+    let w = c .before .before in
     let t = w .before .before in
     let s = t .before .before .before .before .before in
     let e = settled-decided (s .args .r) (s .args .log .now) (sym (t .before .is-fresh .ensures) ∙ t .if1 .taken) in
     (rw e (w .decide .ensures .0), rw e (w .decide .ensures .1))
 
 returns-2 : tie.Need-returns-2
-returns-2 c = let w = c .before .before in
+returns-2 c =
+    let w = c .before .before in
     let t = w .before .before in
     let s = t .before .before .before .before .before in
     let e = settled-bad (s .args .r) (s .args .log .now) (sym (t .before .is-fresh .ensures) ∙ t .if1 .left) in

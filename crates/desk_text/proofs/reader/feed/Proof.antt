@@ -13,7 +13,8 @@ returns c = let t = lt-leb _ _ (c .if1 .taken) in (rw t, rw t)
 
 returns-2 : tie.Need-returns-2
 unfolding feedAnswer feedLog
-returns-2 c = let k = c .before .before in
+returns-2 c =
+    let k = c .before .before in
     let t = le-leb _ _ (k .before .before .if1 .left) in
     (rw (t, ← k .take-bytes .ensures), rw t (ap (λ (s : Standing). s .log) (k .take-bytes .ensures)))
 

@@ -25,4 +25,20 @@ unfolding lineByte
 returns-5 c = rw (c .enum-told2 .given .1)
 
 pub line-byte-spec : {M : Type 1} → statement M
-line-byte-spec = tie.close (tie.spec (λ c. search needs) (λ c κs. tt) (λ c. search needs) (λ c κs. tt) (λ c κs. search needs) returns (λ c κs. tt) (λ c. search needs) (λ c κs. tt) (λ c. search needs) returns-2 returns-3 returns-4 returns-5)
+line-byte-spec =
+    tie.close
+    (tie.spec
+    (λ c. search needs)
+    (λ c κs. tt)
+    (λ c. search needs)
+    (λ c κs. tt)
+    (λ c κs. search needs)
+    returns
+    (λ c κs. tt)
+    (λ c. search needs)
+    (λ c κs. tt)
+    (λ c. search needs)
+    returns-2
+    returns-3
+    returns-4
+    returns-5)

@@ -20,11 +20,26 @@ returns-3 c = simp (ne-eqb _ _ (c .before .before .if1 .left), le-leb _ _ (c .be
 
 returns-4 : tie.Need-returns-4
 unfolding nextDigit
-returns-4 c = let k = c .before in simp (ne-eqb _ _ (k .before .before .if1 .left), le-leb _ _ (k .before .if2 .left), le-leb _ _ (k .if3 .left), lt-leb _ _ (c .if4 .taken))
+returns-4 c =
+    let k = c .before in
+    simp (ne-eqb _ _ (k .before .before .if1 .left), le-leb _ _ (k .before .if2 .left), le-leb _ _ (k .if3 .left), lt-leb _ _ (c .if4 .taken))
 
 returns-5 : tie.Need-returns-5
 unfolding nextDigit
-returns-5 c = let k = c .before in simp (ne-eqb _ _ (k .before .before .if1 .left), le-leb _ _ (k .before .if2 .left), le-leb _ _ (k .if3 .left), le-leb _ _ (c .if4 .left))
+returns-5 c =
+    let k = c .before in
+    simp (ne-eqb _ _ (k .before .before .if1 .left), le-leb _ _ (k .before .if2 .left), le-leb _ _ (k .if3 .left), le-leb _ _ (c .if4 .left))
 
 pub next-digit-spec : {M : Type 1} → statement M
-next-digit-spec = tie.close (tie.spec returns returns-2 returns-3 (λ c. search needs) (λ c. search needs) (λ c. search needs) returns-4 (λ c. search needs) returns-5)
+next-digit-spec =
+    tie.close
+    (tie.spec
+    returns
+    returns-2
+    returns-3
+    (λ c. search needs)
+    (λ c. search needs)
+    (λ c. search needs)
+    returns-4
+    (λ c. search needs)
+    returns-5)

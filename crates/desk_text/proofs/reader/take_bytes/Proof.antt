@@ -19,7 +19,8 @@ take-line-requires : tie.Need-take-line-requires Inv-loop μ-loop
 take-line-requires c κs = omega (arith, c .before .before .before .before .loop .inv .as-long, c .before .before .before .before .before .before .before .before .pre)
 
 loop-again : tie.Need-loop-again Inv-loop μ-loop
-loop-again c = let k = c .before .before .before in
+loop-again c =
+    let k = c .before .before .before in
     let p = k .loop .inv in
     let more = c .before .before .loop-test .taken in
     ⊎-elim
@@ -31,4 +32,17 @@ returns : tie.Need-returns Inv-loop μ-loop
 returns c = partly-done (c .before .loop .inv) (c .loop-test .left)
 
 pub take-bytes-spec : {M : Type 1} → statement M
-take-bytes-spec = tie.close (tie.spec Inv-loop μ-loop (λ c. partly-start) (λ c. search needs) take-line-requires (λ c κs. tt) (λ c. search needs) (λ c. search needs) loop-again (λ c. search needs) returns)
+take-bytes-spec =
+    tie.close
+    (tie.spec
+    Inv-loop
+    μ-loop
+    (λ c. partly-start)
+    (λ c. search needs)
+    take-line-requires
+    (λ c κs. tt)
+    (λ c. search needs)
+    (λ c. search needs)
+    loop-again
+    (λ c. search needs)
+    returns)

@@ -1,7 +1,7 @@
 -- The digits of the tenth, and then the last one. The number falls.
 -- Assumes nothing.
 use Prim.Native.Nat.{ℕ, _<_}
-use mathlib.Core.Path.{sym, _∙_}
+use mathlib.Core.Path.{sym}
 use native.Mathlib.Omega.{arith}
 use lib.ListN.{length-set}
 use borrow.Fn.Kinds.{In}

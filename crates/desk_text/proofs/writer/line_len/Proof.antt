@@ -13,7 +13,8 @@ add-result-2 : tie.Need-add-result-2
 add-result-2 c = record { fits = omega (arith, c .decimal-len .ensures, few-digits _ (c .before .before .fits .n .fits)) }
 
 returns : tie.Need-returns
-returns c = let s = c .before .before in
+returns c =
+    let s = c .before .before in
     (omega (arith, c .decimal-len .ensures, line-length (s .args .word .now) (s .args .n)), omega (arith, c .decimal-len .ensures, few-digits _ (s .fits .n .fits), s .pre))
 
 pub line-len-spec : {M : Type 1} → statement M

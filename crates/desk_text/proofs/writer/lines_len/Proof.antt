@@ -23,4 +23,18 @@ returns : tie.Need-returns Inv-loop μ-loop
 returns c = let k = c .before in (counting-done (k .loop .inv) (c .loop-test .left), omega (arith, k .loop .inv .small))
 
 pub lines-len-spec : {M : Type 1} → statement M
-lines-len-spec = tie.close (tie.spec Inv-loop μ-loop (λ c. counting-start) (λ c. search needs) (λ c. search needs) cast-line-len (λ c κs. search needs) (λ c. search needs) (λ c. search needs) (λ c. search needs) loop-again returns)
+lines-len-spec =
+    tie.close
+    (tie.spec
+    Inv-loop
+    μ-loop
+    (λ c. counting-start)
+    (λ c. search needs)
+    (λ c. search needs)
+    cast-line-len
+    (λ c κs. search needs)
+    (λ c. search needs)
+    (λ c. search needs)
+    (λ c. search needs)
+    loop-again
+    returns)

@@ -17,10 +17,29 @@ cast-put-line : tie.Need-cast-put-line Inv-loop μ-loop
 cast-put-line c = omega (arith, c .before .shared-slice-known3 .given (c .before .before .before .loop .i))
 
 put-line-requires : tie.Need-put-line-requires Inv-loop μ-loop
-put-line-requires c κs = let k = c .before .before in listing-room (k .before .loop .inv) (k .before .before .before .before .before .pre) (k .loop-test .taken)
+put-line-requires c κs =
+    let k = c .before .before in
+    listing-room (k .before .loop .inv) (k .before .before .before .before .before .pre) (k .loop-test .taken)
 
 loop-again : tie.Need-loop-again Inv-loop μ-loop
-loop-again c = let p = c .before .before in let k = p .before .before .before in listing-turn (k .before .loop .inv) (k .loop-test .taken) (p .put-line .ensures)
+loop-again c =
+    let p = c .before .before in
+    let k = p .before .before .before in
+    listing-turn (k .before .loop .inv) (k .loop-test .taken) (p .put-line .ensures)
 
 pub put-lines-spec : {M : Type 1} → statement M
-put-lines-spec = tie.close (tie.spec Inv-loop μ-loop (λ c. listing-start) (λ c. search needs) (λ c. search needs) cast-put-line put-line-requires (λ c. search needs) (λ c. search needs) loop-again (λ c. listing-length (c .before .loop .inv)) (λ c. listing-done (c .before .loop .inv) (c .loop-test .left)))
+put-lines-spec =
+    tie.close
+    (tie.spec
+    Inv-loop
+    μ-loop
+    (λ c. listing-start)
+    (λ c. search needs)
+    (λ c. search needs)
+    cast-put-line
+    put-line-requires
+    (λ c. search needs)
+    (λ c. search needs)
+    loop-again
+    (λ c. listing-length (c .before .loop .inv))
+    (λ c. listing-done (c .before .loop .inv) (c .loop-test .left)))

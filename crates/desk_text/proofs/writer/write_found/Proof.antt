@@ -8,12 +8,14 @@ use Rattle.desk_text.proofs.writer.write_found.Statement.{statement}
 use Rattle.desk_text.proofs.writer.write_found.Tie as tie
 
 returns : tie.Need-returns
-returns c = let k = c .before .before in
+returns c =
+    let k = c .before .before in
     let s = k .before .before .before in
     text-short (foundText (s .args .threshold) (s .args .count) (s .args .found .now)) _ (omega (arith, k .found-len .ensures, c .before .if1 .taken)) (c .too-short .ensures)
 
 returns-2 : tie.Need-returns-2
-returns-2 c = let p = c .before .before in
+returns-2 c =
+    let p = c .before .before in
     let e = p .before .before in
     let s = e .before .before .before .before in
     text-fits (foundText (s .args .threshold) (s .args .count) (s .args .found .now)) _ (omega (arith, e .before .found-len .ensures, e .if1 .left)) (p .put-found .ensures)
