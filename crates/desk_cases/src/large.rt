@@ -2,6 +2,7 @@
 ghost use Prim.Native.Nat.{_≤_};
 ghost use lib.ListN.{length};
 ghost use Rattle.io.specs.Counts.{Counts};
+use crate::tally;
 use crate::tally::Tally;
 
 // Puts bytes behind the first `at` of a buffer, where there is room for them. Answers where they end.
@@ -56,7 +57,7 @@ fn push_same(out: &mut [u8], at: usize, word: &[u8], n: u32, many: u32) -> usize
 
 // As many log lines as there may be, all but one of them got.
 pub fn all_but_one(t: Tally) -> Tally {
-    let mut input = [0u8; 262144];
+    let mut input = tally::buffer();
     let a = push(&mut input, 0, b"threshold=32\n");
     let b = push_range(&mut input, a, b"log=", 0, 8192);
     let c = push_range(&mut input, b, b"got=", 0, 5000);
@@ -69,11 +70,11 @@ pub fn all_but_one(t: Tally) -> Tally {
 
 // As many log lines as there may be, all of one code, and one of them lacking: every one is listed.
 pub fn all_the_same(t: Tally) -> Tally {
-    let mut input = [0u8; 262144];
+    let mut input = tally::buffer();
     let a = push(&mut input, 0, b"threshold=1\n");
     let b = push_same(&mut input, a, b"log=", 4294967295, 8192);
     let end = push_same(&mut input, b, b"got=", 4294967295, 8191);
-    let mut expected = [0u8; 262144];
+    let mut expected = tally::buffer();
     let head = push(
         &mut expected,
         0,
@@ -85,11 +86,11 @@ pub fn all_the_same(t: Tally) -> Tally {
 
 // As many missing as the greatest threshold allows.
 pub fn all_missing(t: Tally) -> Tally {
-    let mut input = [0u8; 4096];
+    let mut input = tally::buffer();
     let a = push(&mut input, 0, b"threshold=32\n");
     let b = push_range(&mut input, a, b"log=", 1, 41);
     let end = push_range(&mut input, b, b"got=", 1, 9);
-    let mut expected = [0u8; 4096];
+    let mut expected = tally::buffer();
     let head = push(
         &mut expected,
         0,
@@ -101,7 +102,7 @@ pub fn all_missing(t: Tally) -> Tally {
 
 // One more than that.
 pub fn one_too_many_missing(t: Tally) -> Tally {
-    let mut input = [0u8; 4096];
+    let mut input = tally::buffer();
     let a = push(&mut input, 0, b"threshold=32\n");
     let end = push_range(&mut input, a, b"log=", 1, 34);
     t.case(&input[..end], b"refusal=4\n")
@@ -109,7 +110,7 @@ pub fn one_too_many_missing(t: Tally) -> Tally {
 
 // Log line 8,193, and then some other bytes.
 fn after_the_last(t: Tally, bytes: &[u8], expected: &[u8]) -> Tally {
-    let mut input = [0u8; 262144];
+    let mut input = tally::buffer();
     let a = push(&mut input, 0, b"threshold=32\n");
     let b = push_range(&mut input, a, b"log=", 0, 8192);
     let end = push(&mut input, b, bytes);
@@ -128,7 +129,7 @@ pub fn one_line_too_many(t: Tally) -> Tally {
 
 // Got lines have no limit.
 pub fn many_got(t: Tally) -> Tally {
-    let mut input = [0u8; 262144];
+    let mut input = tally::buffer();
     let a = push(&mut input, 0, b"threshold=32\nlog=5\nlog=6\n");
     let end = push_same(&mut input, a, b"got=", 5, 10000);
     t.case(&input[..end], b"refusal=4\n")
@@ -136,11 +137,11 @@ pub fn many_got(t: Tally) -> Tally {
 
 // A number of very many digits, and a word of very many bytes.
 pub fn long_lines(t: Tally) -> Tally {
-    let mut number = [b'1'; 100000];
+    let mut number = [b'1'; 4000];
     push(&mut number, 0, b"threshold=");
-    number[99999] = b'\n';
-    let mut word = [b't'; 100000];
-    word[99999] = b'\n';
+    number[3999] = b'\n';
+    let mut word = [b't'; 4000];
+    word[3999] = b'\n';
     let t = t.case(&number, b"refusal=9\n");
     t.case(&word, b"refusal=9\n")
 }

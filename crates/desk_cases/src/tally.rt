@@ -1,6 +1,7 @@
 // One input fed in pieces of several sizes, and what is written held to what is expected.
 ghost use mathlib.Core.Path.{_≡_};
 ghost use Prim.Native.Nat.{min};
+ghost use lib.ListN.{length};
 use desk_text::answer;
 use desk_text::reader;
 
@@ -8,6 +9,13 @@ use desk_text::reader;
 pub struct Tally {
     pub inputs: u32,
     pub differences: u32,
+}
+
+// Zeros, with room for every input and every answer here.
+pub fn buffer() -> [u8; 262144]
+    ensures { λ r. ⌜ 262144 ≡ length r ⌝ }
+{
+    [0u8; 262144]
 }
 
 fn smaller(a: usize, b: usize) -> usize
@@ -33,7 +41,7 @@ fn in_pieces(input: &[u8], expected: &[u8], size: usize) -> bool {
         reading = fed.reading;
         at = end;
     }
-    let mut out = [0u8; 262144];
+    let mut out = buffer();
     let written = answer::finish(reading, &log, &mut out);
     if written.refusal > 0 {
         return false;
@@ -44,7 +52,7 @@ fn in_pieces(input: &[u8], expected: &[u8], size: usize) -> bool {
 
 // The input at once.
 fn at_once(input: &[u8], expected: &[u8]) -> bool {
-    let mut out = [0u8; 262144];
+    let mut out = buffer();
     let written = answer::answer(input, &mut out);
     if written.refusal > 0 {
         return false;
