@@ -5,7 +5,8 @@ use lib.ListN.{length}
 use borrow.Author.Needs.{needs}
 use Rattle.power_sum32.specs.declared.power_sum.PowerSumQuackU32.{PowerSumQuackU32}
 use Rattle.power_sum32.specs.Answers.{decodeOf}
-use Rattle.exports32.proofs.Structs.{decode-in, counted}
+use Rattle.exports32.proofs.Outcomes.{counted}
+use Rattle.exports32.proofs.Structs.{decode-in}
 use Rattle.exports32.proofs.decoder.eddy32_decode_with_log.Statement.{statement}
 use Rattle.exports32.proofs.decoder.eddy32_decode_with_log.Tie as tie
 
