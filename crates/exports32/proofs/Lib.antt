@@ -1,4 +1,7 @@
 -- What is proved of the words beside the contracts, a file for each matter.
+pub mod Chain
 pub mod Determined
-mod Structs
+mod Outcomes
 pub mod RoundTrip
+mod Stores
+mod Structs

@@ -5,7 +5,8 @@ use lib.ListN.{length}
 use borrow.Author.Needs.{needs}
 use Rattle.power_sum32.specs.declared.power_sum.PowerSumQuackU32.{PowerSumQuackU32}
 use Rattle.decoder32.specs.Answers.{coefficientsOf}
-use Rattle.exports32.proofs.Structs.{coefficients-in, counted}
+use Rattle.exports32.proofs.Outcomes.{counted}
+use Rattle.exports32.proofs.Structs.{coefficients-in}
 use Rattle.exports32.proofs.decoder.eddy32_to_coeffs.Statement.{statement}
 use Rattle.exports32.proofs.decoder.eddy32_to_coeffs.Tie as tie
 

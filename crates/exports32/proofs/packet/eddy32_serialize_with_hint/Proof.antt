@@ -5,7 +5,8 @@ use lib.ListN.{length}
 use borrow.Author.Needs.{needs}
 use Rattle.power_sum32.specs.declared.power_sum.PowerSumQuackU32.{PowerSumQuackU32}
 use Rattle.packet32.specs.Answers.{writeWithHintOf}
-use Rattle.exports32.proofs.Structs.{write-with-hint-in, counted}
+use Rattle.exports32.proofs.Outcomes.{counted}
+use Rattle.exports32.proofs.Structs.{write-with-hint-in}
 use Rattle.exports32.proofs.packet.eddy32_serialize_with_hint.Statement.{statement}
 use Rattle.exports32.proofs.packet.eddy32_serialize_with_hint.Tie as tie
 

@@ -4,7 +4,7 @@ use mathlib.Core.Path.{_≡_, _∙_}
 use borrow.Author.Needs.{needs}
 use Rattle.power_sum32.specs.Answers.{insertOf}
 use Rattle.exports32.specs.Structs.{structIn}
-use Rattle.exports32.proofs.Structs.{insert-in, insert-own, kept}
+use Rattle.exports32.proofs.Outcomes.{insert-in, insert-own, kept}
 use Rattle.exports32.proofs.power_sum.eddy32_insert.Statement.{statement}
 use Rattle.exports32.proofs.power_sum.eddy32_insert.Tie as tie
 

@@ -4,7 +4,7 @@ use mathlib.Core.Path.{_≡_, _∙_}
 use borrow.Author.Needs.{needs}
 use Rattle.power_sum32.specs.Answers.{removeOf}
 use Rattle.exports32.specs.Structs.{structIn}
-use Rattle.exports32.proofs.Structs.{remove-in, remove-own, kept}
+use Rattle.exports32.proofs.Outcomes.{remove-in, remove-own, kept}
 use Rattle.exports32.proofs.power_sum.eddy32_remove.Statement.{statement}
 use Rattle.exports32.proofs.power_sum.eddy32_remove.Tie as tie
 

@@ -5,7 +5,7 @@ use borrow.Author.Needs.{needs}
 use Rattle.power_sum32.specs.Answers.{subOf}
 use Rattle.exports32.specs.Words.{subIn}
 use Rattle.exports32.specs.Structs.{structIn}
-use Rattle.exports32.proofs.Structs.{sub-in, kept}
+use Rattle.exports32.proofs.Outcomes.{sub-in, kept}
 use Rattle.exports32.proofs.power_sum.eddy32_sub.Statement.{statement}
 use Rattle.exports32.proofs.power_sum.eddy32_sub.Tie as tie
 
