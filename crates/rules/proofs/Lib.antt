@@ -17,3 +17,7 @@ pub mod Bytes
 pub mod Promise
 pub mod Determined
 pub mod Cases
+pub mod Desk
+pub mod Text
+pub mod Room
+pub mod Missing

@@ -8,3 +8,6 @@ pub mod Calls
 pub mod History
 pub mod Determines
 pub mod Cases
+pub mod Lines
+pub mod Desk
+pub mod Text

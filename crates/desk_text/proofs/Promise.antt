@@ -1,0 +1,63 @@
+-- The promise of the calls: an input fed in pieces of any length, and then finished, leaves exactly the rules' answer at the front of the lent buffer.
+-- What a call answers is whatever its contract allows.
+-- Assumes nothing.
+use Prim.Native.Nat.{ℕ, _≤_, _<_}
+use mathlib.Core.Path.{_≡_, ap, _∙_}
+use mathlib.Core.List.{List, [], _++_}
+use lib.Dec.{lit≤}
+use lib.ListN.{length, drop}
+use borrow.Author.Tests.{le-leb, lt-leb}
+use contract.Lifetimes.{Lfts}
+use denote.Ref.{RefT, now}
+use Rattle.rules.specs.Kind.{kind32}
+use Rattle.rules.specs.Desk.{mostLines}
+use Rattle.rules.specs.Text.{deskAnswer, fitting}
+use Rattle.rules.proofs.Desk.{stateAfter}
+use Rattle.rules.proofs.Room.{answer-short}
+use Rattle.power_sum32.specs.declared.power_sum.Number.{Number}
+use Rattle.desk_text.specs.declared.reader.Reading.{Reading}
+use Rattle.desk_text.specs.declared.reader.Fed.{Fed}
+use Rattle.desk_text.specs.Reader.{standing, feedAnswer}
+use Rattle.desk_text.specs.Answer.{finishOf}
+use Rattle.desk_text.proofs.Meaning.{Tied, tied-start, tied-feed, tied-finish}
+use Rattle.desk_text.proofs.reader.start.Reads as start
+use Rattle.desk_text.proofs.reader.feed.Reads as feed
+use Rattle.desk_text.proofs.answer.finish.Reads as finish
+
+-- A reading with its lent log, got by calls from these bytes: `start`, and then `feed` for each piece.
+pub data Read : List ℕ → Reading → List ℕ → Type 0 where
+  begun : {r : Reading} (log : List ℕ) → mostLines ≤ length log → start.Post tt tt r tt → Read [] r log
+  further : {bs : List ℕ} {r : Reading} {z : Fed} (κs : Lfts 2) (log piece log′ piece′ : RefT (List ℕ)) → Read bs r (now log)
+      → feed.Post κs (r, (log, (piece, tt))) z (r, (log′, (piece′, tt))) → Read (bs ++ now piece) (z .reading) (now log′)
+
+tied : {bs : List ℕ} {r : Reading} {log : List ℕ} → Read bs r log → Tied (stateAfter kind32 bs) (standing r log)
+tied (begun log room p) = rw p (tied-start log room)
+tied (further {bs} {r} κs log piece log′ piece′ read p) = rw (p .0, p .1) (tied-feed bs r (now log) (tied read) (now piece))
+
+-- No piece is refused.
+pub never-refused : {bs : List ℕ} {r : Reading} {z : Fed} (κs : Lfts 2) (log piece log′ piece′ : RefT (List ℕ)) → Read bs r (now log)
+    → feed.Post κs (r, (log, (piece, tt))) z (r, (log′, (piece′, tt))) → z .refusal ≡ 0
+unfolding feedAnswer
+never-refused {bs} {r} κs log piece log′ piece′ read p = ap (λ (x : Fed). x .refusal) (p .0) ∙ rw (le-leb mostLines (length (now log)) (tied read .room))
+
+module _ {bs : List ℕ} {r : Reading} {n : Number} (κs : Lfts 2) (log out log′ out′ : RefT (List ℕ)) (read : Read bs r (now log))
+    (p : finish.Post κs (r, (log, (out, tt))) n (r, (log′, (out′, tt)))) where
+  outcome : finishOf r (now log) (length (now out)) ≡ fitting (deskAnswer kind32 bs) (length (now out))
+  outcome = tied-finish bs r (now log) (tied read) (length (now out))
+
+  -- Where the buffer is long enough, the answer stands at its front, later bytes are untouched, and its length is told.
+  pub answered : length (deskAnswer kind32 bs) ≤ length (now out)
+      → (n ≡ record { refusal = 0; value = length (deskAnswer kind32 bs) }) × (now out′ ≡ deskAnswer kind32 bs ++ drop (length (deskAnswer kind32 bs)) (now out))
+  answered l =
+      let fits = le-leb (length (deskAnswer kind32 bs)) (length (now out)) l in
+      (p .0 ∙ rw (outcome, fits), p .1 .0 ∙ rw (outcome, fits))
+
+  -- Where it is too short, 5 is answered and no byte is written.
+  pub too-short : length (now out) < length (deskAnswer kind32 bs) → (n ≡ record { refusal = 5; value = 0 }) × (now out′ ≡ now out)
+  too-short l =
+      let short = lt-leb (length (deskAnswer kind32 bs)) (length (now out)) l in
+      (p .0 ∙ rw (outcome, short), p .1 .0 ∙ rw (outcome, short))
+
+-- A buffer of 262,144 bytes is long enough for every input.
+pub long-enough : (input : List ℕ) → length (deskAnswer kind32 input) ≤ 262144
+long-enough = answer-short kind32 (lit≤ tt)

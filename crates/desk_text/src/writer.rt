@@ -1,0 +1,158 @@
+// The answer's text, at the front of a lent buffer.
+ghost use mathlib.Core.Path.{_≡_};
+ghost use Prim.Native.Nat.{_+_, _*_, _≤_};
+ghost use lib.ListN.{length};
+ghost use Rattle.power_sum32.specs.Answers.{numbered};
+ghost use Rattle.rules.specs.Calls.{written};
+ghost use Rattle.rules.specs.Desk.{mostLines};
+ghost use Rattle.rules.specs.Text.{lastDigit, decimal, line, lines, fitting};
+ghost use Rattle.desk_text.specs.Writer.{Put, refusedText, foundText};
+use power_sum32::power_sum::Number;
+
+fn last_digit(n: u64) -> u8
+    ensures { λ r. ⌜ r ≡ lastDigit n ⌝ }
+{
+    b'0' + (n % 10) as u8
+}
+
+// ---- how long a text is
+
+fn decimal_len(n: u64) -> usize
+    ensures { λ r. ⌜ r ≡ length (decimal n) ⌝ }
+{
+    if n < 10 {
+        return 1;
+    }
+    decimal_len(n / 10) + 1
+}
+
+fn line_len(word: &[u8], n: u64) -> usize
+    requires { ⌜ length (now word) ≤ 10 ⌝ }
+    ensures { λ r. ⌜ (r ≡ length (line (now (word .entry)) n)) × (r ≤ 31) ⌝ }
+{
+    word.len() + decimal_len(n) + 1
+}
+
+fn lines_len(word: &[u8], list: &[u32]) -> usize
+    requires { ⌜ (length (now word) ≤ 10) × (length (now list) ≤ mostLines) ⌝ }
+    ensures { λ r. ⌜ (r ≡ length (lines (now (word .entry)) (now (list .entry)))) × (r ≤ 31 * mostLines) ⌝ }
+{
+    let mut size: usize = 0;
+    for i in 0..list.len() {
+        let x = list[i];
+        size += line_len(word, x as u64);
+    }
+    size
+}
+
+// ---- a text from a place on, of which there is room; each answers where it ends
+
+fn put(out: &mut [u8], at: usize, bytes: &[u8]) -> usize
+    requires { ⌜ at + length (now bytes) ≤ length (now out) ⌝ }
+    ensures { λ r. ⌜ Put (now (out .entry)) at (now (bytes .entry)) (now (out .exit)) r ⌝ }
+{
+    for i in 0..bytes.len() {
+        let b = bytes[i];
+        let k = at + i;
+        out[k] = b;
+    }
+    at + bytes.len()
+}
+
+fn put_decimal(out: &mut [u8], at: usize, n: u64) -> usize
+    requires { ⌜ at + length (decimal n) ≤ length (now out) ⌝ }
+    ensures { λ r. ⌜ Put (now (out .entry)) at (decimal n) (now (out .exit)) r ⌝ }
+{
+    if n < 10 {
+        out[at] = last_digit(n);
+        return at + 1;
+    }
+    let end = put_decimal(&mut *out, at, n / 10);
+    out[end] = last_digit(n);
+    end + 1
+}
+
+fn put_line(out: &mut [u8], at: usize, word: &[u8], n: u64) -> usize
+    requires { ⌜ at + length (line (now word) n) ≤ length (now out) ⌝ }
+    ensures { λ r. ⌜ Put (now (out .entry)) at (line (now (word .entry)) n) (now (out .exit)) r ⌝ }
+{
+    let number = put(&mut *out, at, word);
+    let end = put_decimal(&mut *out, number, n);
+    put(out, end, b"\n")
+}
+
+fn put_lines(out: &mut [u8], at: usize, word: &[u8], list: &[u32]) -> usize
+    requires { ⌜ at + length (lines (now word) (now list)) ≤ length (now out) ⌝ }
+    ensures { λ r. ⌜ Put (now (out .entry)) at (lines (now (word .entry)) (now (list .entry))) (now (out .exit)) r ⌝ }
+{
+    let mut end = at;
+    for i in 0..list.len() {
+        let x = list[i];
+        end = put_line(&mut *out, end, word, x as u64);
+    }
+    end
+}
+
+// ---- answers
+
+pub(crate) fn too_short() -> Number
+    ensures { λ r. ⌜ r ≡ record { refusal = 5; value = 0 } ⌝ }
+{
+    Number {
+        refusal: 5,
+        value: 0,
+    }
+}
+
+// The text of a refusal.
+pub(crate) fn write_refused(out: &mut [u8], n: u32) -> Number
+    ensures answer { λ r. ⌜ r ≡ numbered (fitting (refusedText n) (length (now (out .entry)))) ⌝ }
+    ensures text { λ r. ⌜ now (out .exit) ≡ written (fitting (refusedText n) (length (now (out .entry)))) (now (out .entry)) ⌝ }
+{
+    if out.len() < line_len(b"refusal=", n as u64) {
+        return too_short();
+    }
+    let end = put_line(out, 0, b"refusal=", n as u64);
+    Number {
+        refusal: 0,
+        value: end,
+    }
+}
+
+fn found_len(threshold: usize, count: u32, found: &[u32]) -> usize
+    requires { ⌜ length (now found) ≤ mostLines ⌝ }
+    ensures { λ r. ⌜ r ≡ length (foundText threshold count (now (found .entry))) ⌝ }
+{
+    line_len(b"refusal=", 0)
+        + line_len(b"threshold=", threshold as u64)
+        + line_len(b"count=", count as u64)
+        + line_len(b"found=", found.len() as u64)
+        + lines_len(b"missing=", found)
+}
+
+fn put_found(out: &mut [u8], threshold: usize, count: u32, found: &[u32]) -> usize
+    requires { ⌜ length (foundText threshold count (now found)) ≤ length (now out) ⌝ }
+    ensures { λ r. ⌜ Put (now (out .entry)) 0 (foundText threshold count (now (found .entry))) (now (out .exit)) r ⌝ }
+{
+    let first = put_line(&mut *out, 0, b"refusal=", 0);
+    let second = put_line(&mut *out, first, b"threshold=", threshold as u64);
+    let third = put_line(&mut *out, second, b"count=", count as u64);
+    let fourth = put_line(&mut *out, third, b"found=", found.len() as u64);
+    put_lines(out, fourth, b"missing=", found)
+}
+
+// The text of an answer that is no refusal.
+pub(crate) fn write_found(out: &mut [u8], threshold: usize, count: u32, found: &[u32]) -> Number
+    requires { ⌜ length (now found) ≤ mostLines ⌝ }
+    ensures answer { λ r. ⌜ r ≡ numbered (fitting (foundText threshold count (now (found .entry))) (length (now (out .entry)))) ⌝ }
+    ensures text { λ r. ⌜ now (out .exit) ≡ written (fitting (foundText threshold count (now (found .entry))) (length (now (out .entry)))) (now (out .entry)) ⌝ }
+{
+    if out.len() < found_len(threshold, count, found) {
+        return too_short();
+    }
+    let end = put_found(out, threshold, count, found);
+    Number {
+        refusal: 0,
+        value: end,
+    }
+}

@@ -1,0 +1,174 @@
+-- The desk program's rules, byte by byte: a number read digit by digit, and an input read in any pieces, are what the lines say.
+-- Assumes nothing.
+use Prim.Native.Nat.{ℕ, _+_, _-_, _*_, _^_, _≤_, _<_}
+use Prim.Native.String.{String}
+use mathlib.Core.Path.{_≡_, refl, ap, _∙_}
+use mathlib.Core.Bool.{Bool, true, false, cond, _&&_}
+use mathlib.Core.List.{List, [], _∷_, _++_, append-nil, append-assoc, foldl}
+use native.Mathlib.Nat.{pow-le-pow-right, le-trans}
+use native.Mathlib.Omega.{arith}
+use lib.Dec.{leb, eqb}
+use borrow.Author.Tests.{le-leb, lt-leb, eqb-true, leb-true, leb-false}
+use Rattle.numbers.specs.Power.{powerWithin, powerMod}
+use Rattle.rules.specs.Kind.{Kind, kind32}
+use Rattle.rules.specs.Sketch.{each, fresh, insert, subtract}
+use Rattle.rules.specs.Decode as decoding
+use Rattle.rules.specs.Decode.{newestFirst, coefficients, evaluate}
+use Rattle.rules.specs.Calls as calls
+use Rattle.rules.specs.Lines.{bytesOf, LF, Cut, inFront, cut, greatestNumber, isDigit, allDigits, decimalValue, wellBegun, Number, some, none, number, keyed, parsed}
+use Rattle.rules.specs.Desk.{Seen, unbegun, next, allLines, closed, readLines, decided, outcome}
+use Rattle.rules.specs.Text.{decimalWithin, decimal, line, lines, printed, deskAnswer}
+use Rattle.rules.proofs.Each.{and-second}
+
+-- ---- a number, digit by digit
+
+-- Further digits behind those that say n: the first that is none, or that takes the number too far, spoils it.
+unfoldable pub further : Kind → ℕ → List ℕ → Number
+further K n [] = some n
+further K n (b ∷ bs) = cond (isDigit b && leb (n * 10 + (b - 48)) (greatestNumber K)) (further K (n * 10 + (b - 48)) bs) none
+
+-- Nothing follows the digit 0.
+unfoldable pub alone : List ℕ → Number
+alone [] = some 0
+alone (b ∷ bs) = none
+
+-- Digits make a number no smaller.
+grows : (n : ℕ) (bs : List ℕ) → n ≤ decimalValue n bs
+unfolding decimalValue
+grows n [] = omega arith
+grows n (b ∷ bs) = le-trans (omega arith) (grows (n * 10 + (b - 48)) bs)
+
+-- The first digit.
+first-value : (b : ℕ) (bs : List ℕ) → decimalValue 0 (b ∷ bs) ≡ decimalValue (b - 48) bs
+unfolding decimalValue
+first-value b bs =
+    let behind-nothing : 0 * 10 + (b - 48) ≡ b - 48 = omega arith in
+    ap (λ (n : ℕ). decimalValue n bs) behind-nothing
+
+and-no : (t : Bool) → t && false ≡ false
+and-no true = refl
+and-no false = refl
+
+module _ (K : Kind) where
+  -- All digits at once.
+  abbrev at-once : ℕ → List ℕ → Number
+  at-once n bs = cond (allDigits bs && leb (decimalValue n bs) (greatestNumber K)) (some (decimalValue n bs)) none
+
+  -- The first of further digits, by its two tests.
+  first-further : (m : ℕ) (bs : List ℕ) (digit within : Bool) → leb m (greatestNumber K) ≡ within → (m ≤ greatestNumber K → further K m bs ≡ at-once m bs)
+      → cond (digit && within) (further K m bs) none
+      ≡ cond ((digit && allDigits bs) && leb (decimalValue m bs) (greatestNumber K)) (some (decimalValue m bs)) none
+  first-further m bs false within e rest = refl
+  first-further m bs true true e rest = rest (leb-true m (greatestNumber K) e)
+  first-further m bs true false e rest =
+      let far : greatestNumber K < decimalValue m bs = omega (arith, leb-false m (greatestNumber K) e, grows m bs) in
+      rw (lt-leb (decimalValue m bs) (greatestNumber K) far, and-no (allDigits bs))
+
+  further-at-once : (n : ℕ) (bs : List ℕ) → n ≤ greatestNumber K → further K n bs ≡ at-once n bs
+  unfolding further allDigits decimalValue
+  further-at-once n [] h = rw (le-leb n (greatestNumber K) h)
+  further-at-once n (b ∷ bs) h =
+      let m = n * 10 + (b - 48) in
+      first-further m bs (isDigit b) (leb m (greatestNumber K)) refl (further-at-once m bs)
+
+  -- The greatest number has more than one digit.
+  nine-fits : 9 ≤ greatestNumber K
+  nine-fits =
+      let more : 256 ^ 1 ≤ 256 ^ K .codeBytes = pow-le-pow-right {n = 256} (omega arith) (K .some-byte) in
+      omega arith
+
+  nought-alone : (bs : List ℕ) → number K (48 ∷ bs) ≡ alone bs
+  unfolding number wellBegun allDigits decimalValue alone
+  nought-alone [] = rw (le-leb 0 (greatestNumber K) (omega arith))
+  nought-alone (d ∷ bs) = refl
+
+  well-begun : (b : ℕ) (bs : List ℕ) → eqb b 48 ≡ false → wellBegun (b ∷ bs) ≡ true
+  unfolding wellBegun
+  well-begun b [] e = refl
+  well-begun b (d ∷ bs) e = rw e
+
+  -- A number is the digit 0 alone, or another digit and then further ones.
+  pub number-by-digits : (b : ℕ) (bs : List ℕ) (nought digit : Bool) → eqb b 48 ≡ nought → isDigit b ≡ digit
+      → number K (b ∷ bs) ≡ cond nought (alone bs) (cond digit (further K (b - 48) bs) none)
+  unfolding number allDigits
+  number-by-digits b bs true digit e d = rw (eqb-true b 48 e) (nought-alone bs)
+  number-by-digits b bs false false e d = rw (well-begun b bs e, d)
+  number-by-digits b bs false true e d =
+      let small : b - 48 ≤ greatestNumber K = omega (arith, nine-fits, leb-true b 57 (and-second (leb 48 b) (leb b 57) d)) in
+      rw (well-begun b bs e, d, first-value b bs, further-at-once (b - 48) bs small)
+
+-- ---- an input, byte by byte
+
+-- Where the reading of an input stands after some bytes: what the whole lines gave, and the line begun.
+pub record State : Type 0 where
+  pub seen : Seen
+  pub begun : List ℕ
+
+module _ (K : Kind) where
+  -- One byte more: LF ends the line begun, any other byte goes on with it.
+  abbrev pub byte : State → ℕ → State
+  byte s b =
+      cond (eqb b LF) (record { seen = next K (s .seen) (parsed K (s .begun)); begun = [] }) (record { seen = s .seen; begun = s .begun ++ (b ∷ []) })
+
+  abbrev pub run : State → List ℕ → State
+  run = foldl byte
+
+  abbrev pub stateAfter : List ℕ → State
+  stateAfter = run (record { seen = unbegun; begun = [] })
+
+  -- The line begun, in front of the lines still to read.
+  abbrev readFrom : Seen → List ℕ → List (List ℕ) → List ℕ → Seen
+  readFrom s begun [] rest = closed s (begun ++ rest)
+  readFrom s begun (l ∷ ls) rest = closed (allLines K s ((begun ++ l) ∷ ls)) rest
+
+  from-none : (s : Seen) (ls : List (List ℕ)) (rest : List ℕ) → readFrom s [] ls rest ≡ closed (allLines K s ls) rest
+  from-none s [] rest = refl
+  from-none s (l ∷ ls) rest = refl
+
+  from-front : (s : Seen) (begun : List ℕ) (b : ℕ) (ls : List (List ℕ)) (rest : List ℕ)
+      → readFrom s (begun ++ (b ∷ [])) ls rest ≡ readFrom s begun (inFront b ls rest .whole) (inFront b ls rest .rest)
+  unfolding inFront
+  from-front s begun b [] rest = rw append-assoc
+  from-front s begun b (l ∷ ls) rest = rw append-assoc
+
+  abbrev Same : List ℕ → Type 0
+  Same bs = (s : State) → closed (run s bs .seen) (run s bs .begun) ≡ readFrom (s .seen) (s .begun) (cut bs .whole) (cut bs .rest)
+
+  same-after : (ends : Bool) (b : ℕ) (bs : List ℕ) (s : State) → Same bs
+      → closed (run (cond ends (record { seen = next K (s .seen) (parsed K (s .begun)); begun = [] }) (record { seen = s .seen; begun = s .begun ++ (b ∷ []) })) bs .seen)
+      (run (cond ends (record { seen = next K (s .seen) (parsed K (s .begun)); begun = [] }) (record { seen = s .seen; begun = s .begun ++ (b ∷ []) })) bs .begun)
+      ≡ readFrom (s .seen) (s .begun)
+      (cond {A = Cut} ends (record { whole = [] ∷ cut bs .whole; rest = cut bs .rest }) (inFront b (cut bs .whole) (cut bs .rest)) .whole)
+      (cond {A = Cut} ends (record { whole = [] ∷ cut bs .whole; rest = cut bs .rest }) (inFront b (cut bs .whole) (cut bs .rest)) .rest)
+  same-after true b bs s rest =
+      let t : State = record { seen = next K (s .seen) (parsed K (s .begun)); begun = [] } in
+      rest t ∙ from-none (t .seen) (cut bs .whole) (cut bs .rest) ∙ rw append-nil
+  same-after false b bs s rest =
+      rest (record { seen = s .seen; begun = s .begun ++ (b ∷ []) }) ∙ from-front (s .seen) (s .begun) b (cut bs .whole) (cut bs .rest)
+
+  same : (bs : List ℕ) → Same bs
+  unfolding cut
+  same [] s = rw append-nil
+  same (b ∷ bs) s = same-after (eqb b LF) b bs s (same bs)
+
+  -- Reading byte by byte gives what the lines give.
+  pub read-after : (bs : List ℕ) → closed (stateAfter bs .seen) (stateAfter bs .begun) ≡ readLines K (cut bs)
+  unfolding readLines
+  read-after bs = same bs (record { seen = unbegun; begun = [] }) ∙ from-none unbegun (cut bs .whole) (cut bs .rest)
+
+-- ---- what the rules compute
+
+abbrev Gives : String → String → Type 0
+Gives input output = deskAnswer kind32 (bytesOf input) ≡ bytesOf output
+
+-- The page's example; the threshold 0, with LF and without; an empty input; more lacking than the threshold allows; repeats in the log; and a bad
+-- line before another.
+pub examples : Gives "threshold=3\nlog=1\nlog=2\nlog=10\ngot=1\ngot=10\n" "refusal=0\nthreshold=3\ncount=1\nfound=1\nmissing=2\n"
+    × Gives "threshold=0\n" "refusal=1\n"
+    × Gives "threshold=0" "refusal=9\n"
+    × Gives "" "refusal=9\n"
+    × Gives "threshold=1\nlog=7\nlog=9\n" "refusal=4\n"
+    × Gives "threshold=2\nlog=9\nlog=7\nlog=9\ngot=7\n" "refusal=0\nthreshold=2\ncount=2\nfound=2\nmissing=9\nmissing=9\n"
+    × Gives "threshold=1\nlog=01\nthreshold=0\n" "refusal=9\n"
+unfolding deskAnswer printed lines line decimal decimalWithin outcome decided readLines closed next cut inFront parsed keyed number wellBegun allDigits decimalValue calls.decode decoding.decode evaluate coefficients newestFirst subtract insert fresh each powerMod powerWithin
+examples = (refl, refl, refl, refl, refl, refl, refl)

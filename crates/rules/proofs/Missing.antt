@@ -1,0 +1,51 @@
+-- The promise for the desk program: where the got codes leave no more of the log than the threshold, the missing lines are exact.
+-- Assumes nothing.
+use Prim.Native.Nat.{ℕ}
+use mathlib.Core.Path.{_≡_, refl}
+use mathlib.Core.List.{List, [], _∷_, foldl}
+use native.Mathlib.Omega.{arith}
+use lib.Dec.{ltb}
+use lib.ListN.{length}
+use Rattle.rules.specs.Kind.{Kind}
+use Rattle.rules.specs.Field.{residue}
+use Rattle.rules.specs.Sketch as sketch
+use Rattle.rules.specs.Sketch.{Sketch, subtract}
+use Rattle.rules.specs.Decode.{keep}
+use Rattle.rules.specs.Calls.{given}
+use Rattle.rules.specs.History.{History, fresh, insert, subAssign, sketchOf, net, Leaves}
+use Rattle.rules.specs.Desk.{logs, gots, sketchOfCodes, Report, decided, outcome}
+use Rattle.rules.proofs.Promise.{count-exact, decode-exact}
+
+-- The history of an input: the codes of its log lines are put in, and the sketch of its got lines is subtracted.
+abbrev pub inserted : History → List ℕ → History
+inserted = foldl insert
+
+abbrev pub lacking : ℕ → List ℕ → List ℕ → History
+lacking T l g = subAssign (inserted (fresh T) l) (inserted (fresh T) g)
+
+module _ (K : Kind) where
+  inserted-sketch : (h : History) (l : List ℕ) (s : Sketch) → sketchOf K h ≡ s → sketchOf K (inserted h l) ≡ foldl (sketch.insert K) s l
+  inserted-sketch h [] s e = e
+  inserted-sketch h (c ∷ l) s e = inserted-sketch (insert h c) l _ (rw e)
+
+  lacking-sketch : (T : ℕ) (l g : List ℕ) → sketchOf K (lacking T l g) ≡ subtract K (sketchOfCodes K T l) (sketchOfCodes K T g)
+  lacking-sketch T l g = rw (inserted-sketch (fresh T) l _ refl, inserted-sketch (fresh T) g _ refl)
+
+  -- What is told: the log entries whose residue has a net number above zero, as they stand in the log, in its order, repeats kept.
+  abbrev pub exact : ℕ → List ℕ → List ℕ → ℕ → Report
+  exact T l g n = record { threshold = T; count = n; found = keep (λ c. ltb 0 (net K (lacking T l g) (residue K c))) l }
+
+  decided-exact : (T : ℕ) (l g : List ℕ) (n : ℕ) → Leaves K (lacking T l g) n
+      → decided K T l (subtract K (sketchOfCodes K T l) (sketchOfCodes K T g)) ≡ given (exact T l g n)
+  unfolding decided
+  decided-exact T l g n leaves =
+      rw (← lacking-sketch T l g, decode-exact K (lacking T l g) n leaves l (length l) (omega arith), count-exact K (lacking T l g) n leaves)
+
+  -- An input with got lines, and one without.
+  pub missing-exact : (T : ℕ) (l g : List ℕ) (n : ℕ) → Leaves K (lacking T l g) n → outcome K (gots T l g) ≡ given (exact T l g n)
+  unfolding outcome
+  missing-exact = decided-exact
+
+  pub all-missing-exact : (T : ℕ) (l : List ℕ) (n : ℕ) → Leaves K (lacking T l []) n → outcome K (logs T l) ≡ given (exact T l [] n)
+  unfolding outcome
+  all-missing-exact T l = decided-exact T l []

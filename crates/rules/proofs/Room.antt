@@ -1,0 +1,206 @@
+-- A buffer of 262,144 bytes holds the desk program's answer to any input, at any kind whose codes have at most eight bytes.
+-- Assumes nothing.
+use Prim.Native.Nat.{ℕ, suc, _+_, _-_, _^_, _≤_, _<_, zero-le}
+use mathlib.Core.Path.{_≡_, refl}
+use mathlib.Core.Bool.{Bool, true, false, cond, _&&_}
+use mathlib.Core.List.{List, [], _∷_, _++_}
+use native.Mathlib.Nat.{mod-lt}
+use native.Mathlib.Omega.{arith}
+use lib.Dec.{leb, ltb, eqb}
+use lib.ListN.{length, length-append}
+use borrow.Author.Tests.{leb-true, ltb-true}
+use Rattle.newton.specs.Members.{AllBelow}
+use Rattle.newton.proofs.Permutation.{all-below-append}
+use Rattle.rules.specs.Kind.{Kind, counts}
+use Rattle.rules.specs.Sketch.{Sketch, inRange, subtract}
+use Rattle.rules.specs.Decode as decoding
+use Rattle.rules.specs.Decode.{evaluate, coefficients, keep}
+use Rattle.rules.specs.Calls as calls
+use Rattle.rules.specs.Calls.{Outcome, refused, given, unless}
+use Rattle.rules.specs.Lines.{Line, threshold, log, got, bad, some, none, wellBegun, allDigits, decimalValue, greatestNumber, number, valued, keyed, orElse, thresholdWord, logWord, gotWord, parsed, cut}
+use Rattle.rules.specs.Desk.{mostLines, Seen, unbegun, logs, gots, stopped, next, allLines, closed, readLines, sketchOfCodes, Report, reported, decided, outcome}
+use Rattle.rules.specs.Text.{refusalWord, countWord, foundWord, missingWord, printed, deskAnswer}
+use Rattle.rules.proofs.Each.{and-second}
+use Rattle.rules.proofs.Text.{line-short, lines-short}
+
+-- A number that is printed in at most twenty digits.
+abbrev Small : ℕ → Type 0
+Small n = n < 10 ^ 20
+
+abbrev AllSmall : List ℕ → Type 0
+AllSmall = AllBelow (10 ^ 20)
+
+-- ---- how many entries are listed
+
+keep-fewer : (test : ℕ → Bool) (l : List ℕ) → length (keep test l) ≤ length l
+keep-fewer test [] = zero-le
+keep-fewer test (c ∷ l) = by-test (test c) (keep-fewer test l)
+  where
+    by-test : (b : Bool) → length (keep test l) ≤ length l → length (cond b (c ∷ keep test l) (keep test l)) ≤ suc (length l)
+    by-test true h = omega arith
+    by-test false h = omega arith
+
+-- A sketch lists no more than a log has.
+pub decode-fewer : (K : Kind) (s : Sketch) (l : List ℕ) → length (decoding.decode K s l) ≤ length l
+unfolding decoding.decode
+decode-fewer K s l = by-count (eqb (s .count) 0)
+  where
+    by-count : (none : Bool) → length (cond none [] (keep (λ c. eqb (evaluate K (coefficients K s) c) 0) l)) ≤ length l
+    by-count true = zero-le
+    by-count false = keep-fewer (λ c. eqb (evaluate K (coefficients K s) c) 0) l
+
+-- ---- what a line says
+
+abbrev Says : Line → Type 0
+Says (threshold n) = Small n
+Says (log n) = Small n
+Says (got n) = Small n
+Says bad = Unit {0}
+
+or-says : (l other : Line) → Says l → Says other → Says (orElse l other)
+or-says (threshold n) other s o = s
+or-says (log n) other s o = s
+or-says (got n) other s o = s
+or-says bad other s o = o
+
+-- ---- what the lines amount to
+
+abbrev Holds : Seen → Type 0
+Holds unbegun = Unit {0}
+Holds (logs T l) = Small T × AllSmall l × (length l ≤ mostLines)
+Holds (gots T l g) = Small T × AllSmall l × (length l ≤ mostLines)
+Holds (stopped n) = Small n
+
+holds-started : (ok : Bool) (T : ℕ) → Small T → Holds (cond ok (logs T []) (stopped 1))
+holds-started true T s = (s, tt, zero-le)
+holds-started false T s = omega arith
+
+holds-logged : (room : Bool) (T c : ℕ) (l : List ℕ) → ltb (length l) mostLines ≡ room → Small c → Holds (logs T l)
+    → Holds (cond room (logs T (l ++ (c ∷ []))) (stopped 10))
+holds-logged true T c l e s h =
+    (h .0, all-below-append (10 ^ 20) l (c ∷ []) (h .1) (s, tt), rw length-append (omega (arith, ltb-true (length l) mostLines e)))
+holds-logged false T c l e s h = omega arith
+
+module _ (K : Kind) (narrow : 256 ^ K .codeBytes ≤ 10 ^ 20) where
+  says-valued : (key : ℕ → Line) → ((n : ℕ) → Small n → Says (key n)) → (bs : List ℕ) → Says (valued key (number K bs))
+  unfolding number
+  says-valued key small bs = by-test (wellBegun bs && (allDigits bs && leb (decimalValue 0 bs) (greatestNumber K))) refl
+    where
+      by-test : (ok : Bool) → wellBegun bs && (allDigits bs && leb (decimalValue 0 bs) (greatestNumber K)) ≡ ok
+          → Says (valued key (cond ok (some (decimalValue 0 bs)) none))
+      by-test true e =
+          let within = leb-true (decimalValue 0 bs) (greatestNumber K) (and-second (allDigits bs) _ (and-second (wellBegun bs) _ e)) in
+          small (decimalValue 0 bs) (omega arith)
+      by-test false e = tt
+
+  says-keyed : (key : ℕ → Line) → ((n : ℕ) → Small n → Says (key n)) → (word bs : List ℕ) → Says (keyed K key word bs)
+  unfolding keyed
+  says-keyed key small [] bs = says-valued key small bs
+  says-keyed key small (w ∷ ws) [] = tt
+  says-keyed key small (w ∷ ws) (b ∷ bs) = by-byte (eqb b w) (says-keyed key small ws bs)
+    where
+      by-byte : (same : Bool) → Says (keyed K key ws bs) → Says (cond same (keyed K key ws bs) bad)
+      by-byte true s = s
+      by-byte false s = tt
+
+  says-parsed : (bs : List ℕ) → Says (parsed K bs)
+  unfolding parsed
+  says-parsed bs =
+      or-says (keyed K threshold thresholdWord bs) (orElse (keyed K log logWord bs) (keyed K got gotWord bs)) (says-keyed threshold (λ n s. s) thresholdWord bs)
+      (or-says (keyed K log logWord bs) (keyed K got gotWord bs) (says-keyed log (λ n s. s) logWord bs) (says-keyed got (λ n s. s) gotWord bs))
+
+  holds-next : (s : Seen) (l : Line) → Holds s → Says l → Holds (next K s l)
+  unfolding next
+  holds-next unbegun (threshold T) h s = holds-started (inRange K T) T s
+  holds-next unbegun (log c) h s = omega arith
+  holds-next unbegun (got c) h s = omega arith
+  holds-next unbegun bad h s = omega arith
+  holds-next (logs T l) (threshold c) h s = omega arith
+  holds-next (logs T l) (log c) h s = holds-logged (ltb (length l) mostLines) T c l refl s h
+  holds-next (logs T l) (got c) h s = h
+  holds-next (logs T l) bad h s = omega arith
+  holds-next (gots T l g) (threshold c) h s = omega arith
+  holds-next (gots T l g) (log c) h s = omega arith
+  holds-next (gots T l g) (got c) h s = h
+  holds-next (gots T l g) bad h s = omega arith
+  holds-next (stopped n) line h s = h
+
+  holds-lines : (s : Seen) (ls : List (List ℕ)) → Holds s → Holds (allLines K s ls)
+  holds-lines s [] h = h
+  holds-lines s (l ∷ ls) h = holds-lines (next K s (parsed K l)) ls (holds-next s (parsed K l) h (says-parsed l))
+
+  holds-closed : (s : Seen) (rest : List ℕ) → Holds s → Holds (closed s rest)
+  unfolding closed
+  holds-closed unbegun rest h = omega arith
+  holds-closed (logs T l) [] h = h
+  holds-closed (logs T l) (b ∷ bs) h = omega arith
+  holds-closed (gots T l g) [] h = h
+  holds-closed (gots T l g) (b ∷ bs) h = omega arith
+  holds-closed (stopped n) rest h = h
+
+  -- ---- the answer
+
+  keep-small : (test : ℕ → Bool) (l : List ℕ) → AllSmall l → AllSmall (keep test l)
+  keep-small test [] small = tt
+  keep-small test (c ∷ l) small = by-test (test c) (keep-small test l (small .1))
+    where
+      by-test : (b : Bool) → AllSmall (keep test l) → AllSmall (cond b (c ∷ keep test l) (keep test l))
+      by-test true h = (small .0, h)
+      by-test false h = h
+
+  decode-small : (s : Sketch) (l : List ℕ) → AllSmall l → AllSmall (decoding.decode K s l)
+  unfolding decoding.decode
+  decode-small s l small = by-count (eqb (s .count) 0)
+    where
+      by-count : (none : Bool) → AllSmall (cond none [] (keep (λ c. eqb (evaluate K (coefficients K s) c) 0) l))
+      by-count true = tt
+      by-count false = keep-small (λ c. eqb (evaluate K (coefficients K s) c) 0) l small
+
+  -- What is told has few digits and few entries.
+  abbrev Tells : Outcome Report → Type 0
+  Tells (refused n) = Small n
+  Tells (given r) = Small (r .threshold) × Small (r .count) × AllSmall (r .found) × (length (r .found) ≤ mostLines)
+
+  tells-decided : (T : ℕ) (l : List ℕ) (s : Sketch) → Small T → AllSmall l → length l ≤ mostLines → Small (s .count) → Tells (decided K T l s)
+  unfolding decided calls.decode
+  tells-decided T l s st sl few sc = by-tests (leb (s .count) (s .threshold)) (leb (length l) (length l))
+    where
+      by-tests : (within room : Bool) → Tells (reported T (s .count) (unless within 4 (unless room 5 (given (decoding.decode K s l)))))
+      by-tests false room = omega arith
+      by-tests true false = omega arith
+      by-tests true true = (st, sc, decode-small s l sl, omega (arith, decode-fewer K s l))
+
+  subtract-small : (s o : Sketch) → Small (subtract K s o .count)
+  unfolding subtract
+  subtract-small s o =
+      let below : subtract K s o .count < counts = mod-lt _ (omega arith) in
+      omega arith
+
+  tells-outcome : (s : Seen) → Holds s → Tells (outcome K s)
+  unfolding outcome
+  tells-outcome unbegun h = omega arith
+  tells-outcome (logs T l) h = tells-decided T l _ (h .0) (h .1) (h .2) (subtract-small (sketchOfCodes K T l) (sketchOfCodes K T []))
+  tells-outcome (gots T l g) h = tells-decided T l _ (h .0) (h .1) (h .2) (subtract-small (sketchOfCodes K T l) (sketchOfCodes K T g))
+  tells-outcome (stopped n) h = h
+
+  printed-short : (o : Outcome Report) → Tells o → length (printed o) ≤ 262144
+  unfolding printed
+  printed-short (refused n) h = omega (arith, line-short refusalWord n h)
+  printed-short (given r) h =
+      simp length-append
+      (omega (
+        arith,
+        line-short refusalWord 0 (omega arith),
+        line-short thresholdWord (r .threshold) (h .0),
+        line-short countWord (r .count) (h .1),
+        line-short foundWord (length (r .found)) (omega (arith, h .3)),
+        lines-short missingWord (r .found) (h .2),
+        h .3,
+      ))
+
+  -- The answer to any input is at most so long.
+  pub answer-short : (input : List ℕ) → length (deskAnswer K input) ≤ 262144
+  unfolding deskAnswer readLines
+  answer-short input =
+      printed-short (outcome K (readLines K (cut input)))
+      (tells-outcome (readLines K (cut input)) (holds-closed (allLines K unbegun (cut input .whole)) (cut input .rest) (holds-lines unbegun (cut input .whole) tt)))

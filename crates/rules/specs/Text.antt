@@ -1,0 +1,68 @@
+-- The text of the desk program's answer, and the answer to a whole input.
+-- Assumes nothing.
+use Prim.Native.Nat.{ℕ, zero, suc, _+_, _/_, _%_}
+use mathlib.Core.Bool.{cond}
+use mathlib.Core.List.{List, [], _∷_, _++_}
+use lib.Dec.{leb, ltb}
+use lib.ListN.{length}
+use Rattle.rules.specs.Kind.{Kind}
+use Rattle.rules.specs.Calls.{Outcome, refused, given, unless}
+use Rattle.rules.specs.Lines.{bytesOf, LF, thresholdWord, cut}
+use Rattle.rules.specs.Desk.{Report, readLines, outcome}
+
+-- ---- numbers
+
+-- The last decimal digit of n.
+abbrev pub lastDigit : ℕ → ℕ
+lastDigit n = 48 + n % 10
+
+-- The decimal digits of n, after at most k divisions by ten.
+unfoldable pub decimalWithin : ℕ → ℕ → List ℕ
+decimalWithin zero n = lastDigit n ∷ []
+decimalWithin (suc k) n = cond (ltb n 10) (lastDigit n ∷ []) (decimalWithin k (n / 10) ++ (lastDigit n ∷ []))
+
+-- The decimal digits of n, without leading zeros; those of n / 10 and then the last one.
+unfoldable pub decimal : ℕ → List ℕ
+unfolding decimalWithin
+decimal n = decimalWithin n n
+
+-- ---- lines
+
+-- The words of the answer; that of the threshold is the input's.
+abbrev pub refusalWord : List ℕ
+refusalWord = bytesOf "refusal="
+
+abbrev pub countWord : List ℕ
+countWord = bytesOf "count="
+
+abbrev pub foundWord : List ℕ
+foundWord = bytesOf "found="
+
+abbrev pub missingWord : List ℕ
+missingWord = bytesOf "missing="
+
+-- A word, a number, and one LF.
+unfoldable pub line : List ℕ → ℕ → List ℕ
+line word n = word ++ (decimal n ++ (LF ∷ []))
+
+-- One line for each number of a list, in its order.
+unfoldable pub lines : List ℕ → List ℕ → List ℕ
+lines word [] = []
+lines word (x ∷ xs) = line word x ++ lines word xs
+
+-- ---- the answer
+
+-- A refusal is the whole answer; otherwise the threshold, the count, how many entries are found, and each of them.
+unfoldable pub printed : Outcome Report → List ℕ
+printed (refused n) = line refusalWord n
+printed (given r) =
+    line refusalWord 0
+    ++ (line thresholdWord (r .threshold) ++ (line countWord (r .count) ++ (line foundWord (length (r .found)) ++ lines missingWord (r .found))))
+
+-- The program's whole output for a whole input.
+unfoldable pub deskAnswer : Kind → List ℕ → List ℕ
+deskAnswer K input = printed (outcome K (readLines K (cut input)))
+
+-- A text for a lent buffer of so many bytes: 5 where the buffer is shorter.
+abbrev pub fitting : List ℕ → ℕ → Outcome (List ℕ)
+fitting text room = unless (leb (length text) room) 5 (given text)
