@@ -72,16 +72,11 @@ impl Residue {
         Residue::zero().sub(self)
     }
 
-    // The prime leaves 5 of 2 ^ 32, so the upper half of a number weighs 5 times as much as the lower.
     pub fn mul(self, rhs: Residue) -> Residue
         ensures { λ r. ⌜ r ≡ wrap (times kind32 (self .0) (rhs .0)) ⌝ }
     {
         let product = (self.0 as u64) * (rhs.0 as u64);
-        let once = product / 4294967296 * 5 + product % 4294967296;
-        let twice = once / 4294967296 * 5 + once % 4294967296;
-        let p = Residue::MODULUS as u64;
-        let least = if twice < p { twice } else { twice - p };
-        Residue(least as u32)
+        Residue((product % (Residue::MODULUS as u64)) as u32)
     }
 
     // The product and a further term, reduced once: a step of Horner's rule.
