@@ -1,0 +1,102 @@
+// One input fed in pieces of several sizes, and what is written held to what is expected.
+ghost use mathlib.Core.Path.{_≡_};
+ghost use Prim.Native.Nat.{min};
+use desk_text::answer;
+use desk_text::reader;
+
+// How many inputs were tried, and how many of them were answered otherwise than expected.
+pub struct Tally {
+    pub inputs: u32,
+    pub differences: u32,
+}
+
+fn smaller(a: usize, b: usize) -> usize
+    ensures { λ r. ⌜ r ≡ min a b ⌝ }
+{
+    if a < b { a } else { b }
+}
+
+// The input in pieces of `size` bytes, of which there is at least one.
+fn in_pieces(input: &[u8], expected: &[u8], size: usize) -> bool {
+    if size == 0 {
+        return false;
+    }
+    let mut log = [0u32; 8192];
+    let mut reading = reader::start();
+    let mut at: usize = 0;
+    while at < input.len() {
+        let end = at + smaller(size, input.len() - at);
+        let fed = reader::feed(reading, &mut log, &input[at..end]);
+        if fed.refusal > 0 {
+            return false;
+        }
+        reading = fed.reading;
+        at = end;
+    }
+    let mut out = [0u8; 262144];
+    let written = answer::finish(reading, &log, &mut out);
+    if written.refusal > 0 {
+        return false;
+    }
+    let n = written.value;
+    check::same(&out[..n], expected)
+}
+
+// The input at once.
+fn at_once(input: &[u8], expected: &[u8]) -> bool {
+    let mut out = [0u8; 262144];
+    let written = answer::answer(input, &mut out);
+    if written.refusal > 0 {
+        return false;
+    }
+    let n = written.value;
+    check::same(&out[..n], expected)
+}
+
+// All ways of feeding an input give what is expected.
+fn agrees(input: &[u8], expected: &[u8]) -> bool {
+    if !at_once(input, expected) {
+        return false;
+    }
+    if !in_pieces(input, expected, 1) {
+        return false;
+    }
+    if !in_pieces(input, expected, 7) {
+        return false;
+    }
+    in_pieces(input, expected, 65536)
+}
+
+impl Tally {
+    pub fn new() -> Tally {
+        Tally {
+            inputs: 0,
+            differences: 0,
+        }
+    }
+
+    // One input more, and whether it was answered as expected.
+    pub fn with(self, agreed: bool) -> Tally {
+        let inputs = std::num::wrapping_add_u32(self.inputs, 1);
+        if agreed {
+            return Tally {
+                inputs,
+                differences: self.differences,
+            };
+        }
+        Tally {
+            inputs,
+            differences: std::num::wrapping_add_u32(self.differences, 1),
+        }
+    }
+
+    pub fn case(self, input: &[u8], expected: &[u8]) -> Tally {
+        self.with(agrees(input, expected))
+    }
+
+    // An input that is refused by a number of one digit.
+    pub fn refused(self, input: &[u8], digit: u8) -> Tally {
+        let expected = [b'r', b'e', b'f', b'u', b's', b'a', b'l', b'=', digit, b'\n'];
+        self.case(input, &expected)
+    }
+}
