@@ -87,7 +87,7 @@ pub residue-pow-wrong : (residue-pow.Post tt (wrap 2, (10, tt)) (record { value 
 unfolding powerMod powerWithin multiplications multiplicationsWithin
 residue-pow-wrong = (
   λ p. let e : _≡_ {A = ℕ} 512 1024 = ap (λ (r : Powered). val (r .value)) p in omega arith,
-  λ p. let e : _≡_ {A = ℕ} 5 4 = ap (λ (r : Powered). r .multiplications) p in omega arith
+  λ p. let e : _≡_ {A = ℕ} 5 4 = ap (λ (r : Powered). r .multiplications) p in omega arith,
 )
 
 pub code-pow-wrong : (code-pow.Post tt (code 4294967293, (10, tt)) (record { value = wrap 512; multiplications = 4 }) (code 4294967293, (10, tt)) → ⊥)
@@ -95,5 +95,5 @@ pub code-pow-wrong : (code-pow.Post tt (code 4294967293, (10, tt)) (record { val
 unfolding powerMod powerWithin multiplications multiplicationsWithin
 code-pow-wrong = (
   λ p. let e : _≡_ {A = ℕ} 512 1024 = ap (λ (r : Powered). val (r .value)) p in omega arith,
-  λ p. let e : _≡_ {A = ℕ} 5 4 = ap (λ (r : Powered). r .multiplications) p in omega arith
+  λ p. let e : _≡_ {A = ℕ} 5 4 = ap (λ (r : Powered). r .multiplications) p in omega arith,
 )
