@@ -56,7 +56,7 @@ fn push_same(out: &mut [u8], at: usize, word: &[u8], n: u32, many: u32) -> usize
 }
 
 // As many log lines as there may be, all but one of them got.
-pub fn all_but_one(t: Tally) -> Tally {
+pub(crate) fn all_but_one(t: Tally) -> Tally {
     let mut input = tally::buffer();
     let a = push(&mut input, 0, b"threshold=32\n");
     let b = push_range(&mut input, a, b"log=", 0, 8192);
@@ -69,7 +69,7 @@ pub fn all_but_one(t: Tally) -> Tally {
 }
 
 // As many log lines as there may be, all of one code, and one of them lacking: every one is listed.
-pub fn all_the_same(t: Tally) -> Tally {
+pub(crate) fn all_the_same(t: Tally) -> Tally {
     let mut input = tally::buffer();
     let a = push(&mut input, 0, b"threshold=1\n");
     let b = push_same(&mut input, a, b"log=", 4294967295, 8192);
@@ -85,7 +85,7 @@ pub fn all_the_same(t: Tally) -> Tally {
 }
 
 // As many missing as the greatest threshold allows.
-pub fn all_missing(t: Tally) -> Tally {
+pub(crate) fn all_missing(t: Tally) -> Tally {
     let mut input = tally::buffer();
     let a = push(&mut input, 0, b"threshold=32\n");
     let b = push_range(&mut input, a, b"log=", 1, 41);
@@ -101,7 +101,7 @@ pub fn all_missing(t: Tally) -> Tally {
 }
 
 // One more than that.
-pub fn one_too_many_missing(t: Tally) -> Tally {
+pub(crate) fn one_too_many_missing(t: Tally) -> Tally {
     let mut input = tally::buffer();
     let a = push(&mut input, 0, b"threshold=32\n");
     let end = push_range(&mut input, a, b"log=", 1, 34);
@@ -118,7 +118,7 @@ fn after_the_last(t: Tally, bytes: &[u8], expected: &[u8]) -> Tally {
 }
 
 // What may stand behind log line 8,192: no further log line, and on one line 9 comes before 10.
-pub fn one_line_too_many(t: Tally) -> Tally {
+pub(crate) fn one_line_too_many(t: Tally) -> Tally {
     let t = after_the_last(t, b"", b"refusal=4\n");
     let t = after_the_last(t, b"log=8192\n", b"refusal=10\n");
     let t = after_the_last(t, b"log=08192\n", b"refusal=9\n");
@@ -128,7 +128,7 @@ pub fn one_line_too_many(t: Tally) -> Tally {
 }
 
 // Got lines have no limit.
-pub fn many_got(t: Tally) -> Tally {
+pub(crate) fn many_got(t: Tally) -> Tally {
     let mut input = tally::buffer();
     let a = push(&mut input, 0, b"threshold=32\nlog=5\nlog=6\n");
     let end = push_same(&mut input, a, b"got=", 5, 10000);
@@ -136,7 +136,7 @@ pub fn many_got(t: Tally) -> Tally {
 }
 
 // A number of very many digits, and a word of very many bytes.
-pub fn long_lines(t: Tally) -> Tally {
+pub(crate) fn long_lines(t: Tally) -> Tally {
     let mut number = [b'1'; 4000];
     push(&mut number, 0, b"threshold=");
     number[3999] = b'\n';

@@ -2,7 +2,7 @@
 use crate::tally::Tally;
 
 // Good inputs: what is missing, as it stands in the log, in its order, repeats kept.
-pub fn lists(t: Tally) -> Tally {
+pub(crate) fn lists(t: Tally) -> Tally {
     let t = t.case(
         b"threshold=3\nlog=1\nlog=2\nlog=10\ngot=1\ngot=10\n",
         b"refusal=0\nthreshold=3\ncount=1\nfound=1\nmissing=2\n",
@@ -42,7 +42,7 @@ pub fn lists(t: Tally) -> Tally {
 }
 
 // Codes at the edges: those with one residue are listed together.
-pub fn codes(t: Tally) -> Tally {
+pub(crate) fn codes(t: Tally) -> Tally {
     let t = t.case(
         b"threshold=2\nlog=0\nlog=4294967291\ngot=0\n",
         b"refusal=0\nthreshold=2\ncount=1\nfound=2\nmissing=0\nmissing=4294967291\n",
@@ -74,7 +74,7 @@ pub fn codes(t: Tally) -> Tally {
 }
 
 // Counts above the threshold.
-pub fn counts(t: Tally) -> Tally {
+pub(crate) fn counts(t: Tally) -> Tally {
     let t = t.refused(b"threshold=1\nlog=1\nlog=2\n", b'4');
     let t = t.refused(b"threshold=2\nlog=1\nlog=2\nlog=3\n", b'4');
     let t = t.case(
@@ -86,7 +86,7 @@ pub fn counts(t: Tally) -> Tally {
 }
 
 // Thresholds out of range, and which bad line decides.
-pub fn thresholds(t: Tally) -> Tally {
+pub(crate) fn thresholds(t: Tally) -> Tally {
     let t = t.refused(b"threshold=0\n", b'1');
     let t = t.refused(b"threshold=33\n", b'1');
     let t = t.refused(b"threshold=257\n", b'1');
@@ -99,7 +99,7 @@ pub fn thresholds(t: Tally) -> Tally {
 }
 
 // Empty inputs, empty lines, and lines without LF.
-pub fn ends(t: Tally) -> Tally {
+pub(crate) fn ends(t: Tally) -> Tally {
     let t = t.refused(b"", b'9');
     let t = t.refused(b"\n", b'9');
     let t = t.refused(b"\nthreshold=3\n", b'9');
@@ -114,7 +114,7 @@ pub fn ends(t: Tally) -> Tally {
 }
 
 // Numbers that are none.
-pub fn numbers(t: Tally) -> Tally {
+pub(crate) fn numbers(t: Tally) -> Tally {
     let t = t.refused(b"threshold=03\n", b'9');
     let t = t.refused(b"threshold=3\nlog=01\n", b'9');
     let t = t.refused(b"threshold=3\nlog=00\n", b'9');
@@ -130,7 +130,7 @@ pub fn numbers(t: Tally) -> Tally {
 }
 
 // Numbers above the greatest.
-pub fn large_numbers(t: Tally) -> Tally {
+pub(crate) fn large_numbers(t: Tally) -> Tally {
     let t = t.refused(b"threshold=4294967296\n", b'9');
     let t = t.refused(b"threshold=3\nlog=4294967296\n", b'9');
     let t = t.refused(b"threshold=3\ngot=4294967296\n", b'9');
@@ -143,7 +143,7 @@ pub fn large_numbers(t: Tally) -> Tally {
 }
 
 // Spaces, and bytes that are no text.
-pub fn spaces(t: Tally) -> Tally {
+pub(crate) fn spaces(t: Tally) -> Tally {
     let t = t.refused(b"threshold= 3\n", b'9');
     let t = t.refused(b"threshold =3\n", b'9');
     let t = t.refused(b" threshold=3\n", b'9');
@@ -156,7 +156,7 @@ pub fn spaces(t: Tally) -> Tally {
 }
 
 // Words that are none.
-pub fn keys(t: Tally) -> Tally {
+pub(crate) fn keys(t: Tally) -> Tally {
     let t = t.refused(b"Threshold=3\n", b'9');
     let t = t.refused(b"threshold=3\nLOG=1\n", b'9');
     let t = t.refused(b"threshold=3\nlog=1\nGot=1\n", b'9');
@@ -171,7 +171,7 @@ pub fn keys(t: Tally) -> Tally {
 }
 
 // Lines out of their order.
-pub fn order(t: Tally) -> Tally {
+pub(crate) fn order(t: Tally) -> Tally {
     let t = t.refused(b"log=1\nthreshold=3\n", b'9');
     let t = t.refused(b"got=1\n", b'9');
     let t = t.refused(b"threshold=3\nthreshold=3\n", b'9');

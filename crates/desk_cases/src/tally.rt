@@ -12,7 +12,7 @@ pub struct Tally {
 }
 
 // Zeros, with room for every input and every answer here.
-pub fn buffer() -> [u8; 262144]
+pub(crate) fn buffer() -> [u8; 262144]
     ensures { λ r. ⌜ 262144 ≡ length r ⌝ }
 {
     [0u8; 262144]
@@ -76,7 +76,7 @@ fn agrees(input: &[u8], expected: &[u8]) -> bool {
 }
 
 impl Tally {
-    pub fn new() -> Tally {
+    pub(crate) fn new() -> Tally {
         Tally {
             inputs: 0,
             differences: 0,
@@ -84,7 +84,7 @@ impl Tally {
     }
 
     // One input more, and whether it was answered as expected.
-    pub fn with(self, agreed: bool) -> Tally {
+    pub(crate) fn with(self, agreed: bool) -> Tally {
         let inputs = std::num::wrapping_add_u32(self.inputs, 1);
         if agreed {
             return Tally {
@@ -98,12 +98,12 @@ impl Tally {
         }
     }
 
-    pub fn case(self, input: &[u8], expected: &[u8]) -> Tally {
+    pub(crate) fn case(self, input: &[u8], expected: &[u8]) -> Tally {
         self.with(agrees(input, expected))
     }
 
     // An input that is refused by a number of one digit.
-    pub fn refused(self, input: &[u8], digit: u8) -> Tally {
+    pub(crate) fn refused(self, input: &[u8], digit: u8) -> Tally {
         let expected = [b'r', b'e', b'f', b'u', b's', b'a', b'l', b'=', digit, b'\n'];
         self.case(input, &expected)
     }

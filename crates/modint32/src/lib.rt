@@ -1,6 +1,6 @@
 // The field of 32-bit codes modulo the greatest 32-bit prime: codes, residues, and their arithmetic.
 ghost use mathlib.Core.Path.{_≡_};
-ghost use Prim.Native.Nat.{_*_};
+ghost use Prim.Native.Nat.{_<_, _*_};
 ghost use Rattle.rules.specs.Kind.{kind32};
 ghost use Rattle.rules.specs.Field.{residue, plus, minus, negative, times, multiplications, inverse};
 ghost use Rattle.modint32.specs.Answers.{wrap, powered};
@@ -17,6 +17,17 @@ pub struct Residue(u32);
 pub struct Powered {
     pub value: Residue,
     pub multiplications: u32,
+}
+
+// What the prime leaves of a number below three times the prime. Neither subtraction is a branch.
+fn left_over(number: u64) -> u32
+    requires { ⌜ number < 12884901873 ⌝ }
+    ensures { λ r. ⌜ r ≡ residue kind32 number ⌝ }
+{
+    let p = Residue::MODULUS as u64;
+    let once = if number < p { number } else { number - p };
+    let twice = if once < p { once } else { once - p };
+    twice as u32
 }
 
 impl Residue {
@@ -44,7 +55,7 @@ impl Residue {
         ensures { λ r. ⌜ r ≡ wrap (plus kind32 (self .0) (rhs .0)) ⌝ }
     {
         let sum = (self.0 as u64) + (rhs.0 as u64);
-        Residue((sum % (Residue::MODULUS as u64)) as u32)
+        Residue(left_over(sum))
     }
 
     pub fn sub(self, rhs: Residue) -> Residue
@@ -52,7 +63,7 @@ impl Residue {
     {
         let negative = Residue::MODULUS - rhs.0 % Residue::MODULUS;
         let difference = (self.0 as u64) + (negative as u64);
-        Residue((difference % (Residue::MODULUS as u64)) as u32)
+        Residue(left_over(difference))
     }
 
     pub fn neg(self) -> Residue

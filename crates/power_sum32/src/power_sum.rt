@@ -1,6 +1,6 @@
 // The sketch and its calls, by value.
 ghost use mathlib.Core.Path.{_≡_};
-ghost use mathlib.Core.Bool.{true, _&&_};
+ghost use mathlib.Core.Bool.{true, cond, _&&_};
 ghost use Prim.Native.Nat.{_<_, min};
 ghost use Rattle.rules.specs.Kind.{kind32};
 ghost use Rattle.rules.specs.Sketch.{placeFits, lastFits, inRange, lastWithout, insert, remove, subtract};
@@ -44,15 +44,16 @@ fn in_range(threshold: usize) -> bool
     threshold <= 32
 }
 
-fn place_fits(threshold: usize, k: usize, s: Residue) -> bool
-    ensures { λ r. ⌜ r ≡ placeFits kind32 threshold k (s .0) ⌝ }
+// What a place adds to the misfits: nothing where it fits. Both comparisons are values, so no place is a branch.
+fn misfit(threshold: usize, k: usize, s: Residue) -> u32
+    ensures { λ r. ⌜ r ≡ cond (placeFits kind32 threshold k (s .0)) 0 1 ⌝ }
 {
-    let value = s.value();
-    if k < threshold {
-        value < Residue::MODULUS
+    let most = if k < threshold {
+        Residue::MODULUS - 1
     } else {
-        value == 0
-    }
+        0
+    };
+    if s.value() <= most { 0 } else { 1 }
 }
 
 fn last_fits(last: Last) -> bool
@@ -143,14 +144,13 @@ impl PowerSumQuackU32 {
             return false;
         }
         let sums = self.sums;
+        let mut misfits = 0;
         for k in 0..32 {
             let here = sums[k];
-            if !place_fits(threshold, k, here) {
-                return false;
-            }
+            misfits += misfit(threshold, k, here);
         }
         let last = self.last;
-        last_fits(last)
+        if misfits == 0 { last_fits(last) } else { false }
     }
 
     // The core of `insert`: what it makes of a well-formed sketch.
@@ -163,11 +163,22 @@ impl PowerSumQuackU32 {
         let mut sums = self.sums;
         let first = sums[0];
         sums[0] = first.add(x);
+        let square = x.mul(x);
         let mut power = x;
-        for k in 1..threshold {
-            power = power.mul(x);
+        let mut next = square;
+        let mut k = 1;
+        while 1 < threshold - k {
             let sum = sums[k];
-            sums[k] = sum.add(power);
+            sums[k] = sum.add(next);
+            power = power.mul(square);
+            let after = sums[k + 1];
+            sums[k + 1] = after.add(power);
+            next = next.mul(square);
+            k += 2;
+        }
+        if k < threshold {
+            let end = sums[k];
+            sums[k] = end.add(next);
         }
         let count = std::num::wrapping_add_u32(self.count, 1);
         PowerSumQuackU32 {
@@ -198,11 +209,22 @@ impl PowerSumQuackU32 {
         let mut sums = self.sums;
         let first = sums[0];
         sums[0] = first.sub(x);
+        let square = x.mul(x);
         let mut power = x;
-        for k in 1..threshold {
-            power = power.mul(x);
+        let mut next = square;
+        let mut k = 1;
+        while 1 < threshold - k {
             let sum = sums[k];
-            sums[k] = sum.sub(power);
+            sums[k] = sum.sub(next);
+            power = power.mul(square);
+            let after = sums[k + 1];
+            sums[k + 1] = after.sub(power);
+            next = next.mul(square);
+            k += 2;
+        }
+        if k < threshold {
+            let end = sums[k];
+            sums[k] = end.sub(next);
         }
         let count = std::num::wrapping_sub_u32(self.count, 1);
         let stored = self.last;

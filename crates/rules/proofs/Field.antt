@@ -4,7 +4,7 @@ use Prim.Native.Nat.{ℕ, _+_, _-_, _*_, _/_, _%_, _^_, _<_, _≤_, _∣_}
 use mathlib.Core.Path.{_≡_, sym, _∙_, ap, subst}
 use mathlib.Core.Bool.{true}
 use mathlib.Core.List.{List}
-use native.Mathlib.Nat.{mod-lt, mod-mod, mod-eq-of-lt, mod-eq-sub-mod, add-mod, add-mod-mod, mod-add-mod, pow-zero}
+use native.Mathlib.Nat.{mod-lt, mod-mod, mod-eq-of-lt, mod-eq-sub-mod, add-mod, add-mod-mod, mod-add-mod, add-mul-mod-self-left, pow-zero}
 use native.Mathlib.Omega.{arith}
 use lib.Dec.{T, eqb→eq}
 use lib.ListN.{length, getD}
@@ -60,6 +60,10 @@ module _ (K : Kind) where
 
   pub minus-reduced : (a b : ℕ) → minus K a (b % K .modulus) ≡ minus K a b
   minus-reduced a b = ap (λ (x : ℕ). (a + (K .modulus - x)) % K .modulus) (mod-mod b (K .modulus))
+
+  -- The upper part of a number may be weighed by what its unit is above the prime.
+  pub weighed : (w q r : ℕ) → plus K (q * w) r ≡ residue K (r + (K .modulus + w) * q)
+  weighed w q r = sym (ap (λ (x : ℕ). x % K .modulus) (omega arith) ∙ add-mul-mod-self-left (q * w + r) (K .modulus) q)
 
   -- A sum, a product of codes is that of their residues.
   pub plus-residues : (a b : ℕ) → plus K (residue K a) (residue K b) ≡ plus K a b

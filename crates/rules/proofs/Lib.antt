@@ -4,6 +4,7 @@ pub mod Multiplications
 pub mod Each
 pub mod Tests
 pub mod Sums
+pub mod Chains
 pub mod WellFormed
 pub mod Recurrence
 pub mod Evaluate

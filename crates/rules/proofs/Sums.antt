@@ -1,19 +1,18 @@
 -- The loops over the sums of a sketch, at every width: A is a width's type of residue, `val` a residue's number, `wrap` the residue of a number.
 -- An invariant is a record, so that what it speaks of is found at each use.
 -- Assumes nothing.
-use Prim.Native.Nat.{ℕ, zero, suc, _+_, _-_, _*_, _%_, _^_, _≤_, _<_, zero-le, min}
+use Prim.Native.Nat.{ℕ, zero, suc, _+_, _-_, _%_, _^_, _≤_, _<_, zero-le, min}
 use mathlib.Core.Path.{_≡_, refl, ap, ap₂, sym, _∙_}
 use mathlib.Core.Bool.{true}
 use mathlib.Core.List.{List, [], _∷_, _++_, map}
-use native.Mathlib.Nat.{sub-zero, zero-add, zero-sub, suc-sub-suc, pow-suc, mod-mod}
+use native.Mathlib.Nat.{sub-zero, zero-add, zero-sub, suc-sub-suc, mod-mod}
 use native.Mathlib.Numerals.{add-one}
 use native.Mathlib.Omega.{arith}
 use lib.ListN.{length, getD, take, drop, set, replicate, length-map, length-set, List·getD-map, take-append-drop, length-replicate, replicate-append-replicate}
 use lib.Seq.{drop-cons, take-suc-set, drop-set-lt, append-snoc, length-take-le, getD-take}
-use Rattle.numbers.proofs.Congruence.{mul-mod-left}
 use Rattle.numbers.proofs.Power.{pow-one}
 use Rattle.rules.specs.Kind.{Kind}
-use Rattle.rules.specs.Field.{residue, times, minus}
+use Rattle.rules.specs.Field.{residue, minus}
 use Rattle.rules.specs.Sketch.{Last, each, wellFormed, placed}
 use Rattle.rules.proofs.Each.{each-length, each-same}
 use Rattle.rules.proofs.WellFormed.{threshold-in-range, rest-is-zero}
@@ -99,18 +98,13 @@ module _ {A : Type 0} {val : A → ℕ} {K : Kind} {op : ℕ → ℕ → ℕ} {n
       range : (1 ≤ n) × (n ≤ K .greatest)
       range = threshold-in-range K n (map val sums₀) last ok
 
-  -- One turn: the product is the next power, and the sum at k changes by it.
+  -- One place: the sum at k changes by the next power, which is then the running one.
   pub raised-turn : {x : ℕ} {sums : List A} {power : A} {k : ℕ} → ((a b : ℕ) → op a (b % K .modulus) ≡ op a b) → Raised val K op x n sums₀ sums power k → k < n
-      → (v q d : A) → val q ≡ times K (val power) x → val v ≡ op (val (getD sums k d)) (val q) → Raised val K op x n sums₀ (set sums k v) q (k + 1)
-  raised-turn {x} {sums} {power} {k} reduced i h v q d eq ev = record {
+      → (v q d : A) → val q ≡ x ^ (k + 1) % K .modulus → val v ≡ op (val (getD sums k d)) (val q) → Raised val K op x n sums₀ (set sums k v) q (k + 1)
+  raised-turn {sums} {k} reduced i h v q d next ev = record {
     sums-so-far = changing-turn (i .sums-so-far) h v d (ev ∙ ap (op (val (getD sums k d))) next ∙ reduced _ _);
     running = next;
   }
-    where
-      next : val q ≡ x ^ (k + 1) % K .modulus
-      next =
-          eq ∙ ap (λ (y : ℕ). times K y x) (i .running) ∙ mul-mod-left (x ^ k) x (K .modulus)
-          ∙ ap (λ (y : ℕ). y % K .modulus) (sym (pow-suc x k) ∙ ap (λ (j : ℕ). x ^ j) (sym (add-one k)))
 
   -- After n places every sum has changed by its power, and the unused places hold 0.
   pub raised-done : {x : ℕ} {sums : List A} {power : A} {k : ℕ} → Raised val K op x n sums₀ sums power k → n ≤ k → (last : Last) (wrap : ℕ → A)

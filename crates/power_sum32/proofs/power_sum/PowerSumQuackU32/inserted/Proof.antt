@@ -1,45 +1,64 @@
--- Each sum grows by its power; the running product is the power.
+-- Each sum grows by its power; two running products are the powers of a pair of places.
 -- Assumes nothing.
 use Prim.Native.Nat.{_-_}
-use mathlib.Core.Path.{_≡_, refl, ap}
+use mathlib.Core.Path.{refl, ap, _∙_}
+use mathlib.Core.Logic.{⊎-elim}
 use lib.ListN.{length-map}
 use borrow.Author.Needs.{needs}
 use Rattle.rules.specs.Kind.{kind32}
 use Rattle.rules.specs.Field.{plus}
 use Rattle.rules.specs.Sketch.{insert}
 use Rattle.rules.proofs.Field.{plus-reduced}
-use Rattle.rules.proofs.Sums.{Raised, raised-start, raised-turn, raised-done}
+use Rattle.rules.proofs.Sums.{raised-start}
+use Rattle.rules.proofs.Chains.{Chained, chained-start, chained-turn, chained-last, chained-done}
 use Rattle.modint32.specs.Answers.{val, wrap}
 use Rattle.power_sum32.specs.Answers.{lastOf}
 use Rattle.power_sum32.proofs.power_sum.PowerSumQuackU32.inserted.Statement.{statement}
 use Rattle.power_sum32.proofs.power_sum.PowerSumQuackU32.inserted.Tie as tie
 
 abbrev Inv-loop : tie.InvT-loop
-Inv-loop self x threshold sums₀ power₀ k₀ sums power k = Raised val kind32 (plus kind32) (x .0) threshold (self .sums) sums power k
+Inv-loop self x threshold sums₀ square power₀ next₀ k₀ sums power next k = Chained val kind32 (plus kind32) (x .0) threshold (self .sums) sums power next k
 
 abbrev μ-loop : tie.MeasureT-loop
-μ-loop self x threshold sums₀ power₀ k₀ sums power k = threshold - k
+μ-loop self x threshold sums₀ square power₀ next₀ k₀ sums power next k = threshold - k
 
 loop-holds : tie.Need-loop-holds Inv-loop μ-loop
 loop-holds c =
-    let r = c .before .before .before in
+    let f = c .before in
+    let r = f .before .before .before in
     let s = r .before in
-    raised-start (lastOf (s .args .self .last)) (s .pre) (simp length-map at (s .good .0 .1 .1 .1 .0 .1 .0 .1)) (s .args .code .0) (ap val (r .reduce .ensures))
-    (c .add .result) (wrap 0) (ap val (c .add .ensures))
+    chained-start
+    (raised-start (lastOf (s .args .self .last)) (s .pre) (simp length-map at (s .good .0 .1 .1 .1 .0 .1 .0 .1)) (s .args .code .0) (ap val (r .reduce .ensures))
+    (f .add .result) (wrap 0) (ap val (f .add .ensures)))
+    (ap val (c .mul .ensures))
 
 loop-again : tie.Need-loop-again Inv-loop μ-loop
 loop-again c =
-    raised-turn (plus-reduced kind32) (c .before .before .before .before .loop .inv) (c .before .before .before .loop-test .taken)
-    (c .add2 .result) (c .before .before .mul .result) (wrap 0) (ap val (c .before .before .mul .ensures)) (ap val (c .add2 .ensures))
+    let w = c .before in
+    let p = w .before .before in
+    let v = p .before in
+    let t = v .before .before in
+    let l = t .before in
+    chained-turn (plus-reduced kind32) (l .loop .inv) (ap val (l .before .mul .ensures)) (t .loop-test .taken)
+    (v .add2 .result) (w .add3 .result) (p .mul2 .result) (c .mul3 .result) (wrap 0)
+    (ap val (v .add2 .ensures)) (ap val (p .mul2 .ensures)) (ap val (w .add3 .ensures)) (ap val (c .mul3 .ensures))
 
 returns : tie.Need-returns Inv-loop μ-loop
 unfolding insert
 returns c =
-    let k = c .before .before in
-    let r = k .before .before .before .before in
+    let j = c .before in
+    let t = j .before in
+    let l = t .before in
+    let r = l .before .before .before .before .before in
     let s = r .before in
+    let last = lastOf (s .args .self .last) in
+    let full = simp length-map at (s .good .0 .1 .1 .1 .0 .1 .0 .1) in
     rw (
-      raised-done (k .loop .inv) (c .before .loop-test .left) (lastOf (s .args .self .last)) wrap (λ a. refl) (s .pre) (simp length-map at (s .good .0 .1 .1 .1 .0 .1 .0 .1)),
+      ⊎-elim
+          (λ w. w .3
+          ∙ chained-last (l .loop .inv) (t .loop-test .left) last wrap (λ a. refl) (s .pre) full (plus-reduced kind32) (w .0 .taken) (w .2 .result) (wrap 0) (ap val (w .2 .ensures)))
+          (λ w. w .1 ∙ chained-done (l .loop .inv) (t .loop-test .left) last wrap (λ a. refl) (s .pre) full (w .0 .left))
+          (j .if1 .came),
       c .wrapping-add-u32 .ensures,
       r .reduce .ensures,
     )
@@ -54,15 +73,30 @@ inserted-spec =
     (λ c. search needs)
     (λ c κs. tt)
     (λ c. search needs)
+    (λ c κs. tt)
     loop-holds
+    (λ c. search needs)
+    (λ c. search needs)
+    (λ c. search needs)
     (λ c κs. tt)
     (λ c. search needs)
     (λ c. search needs)
     (λ c κs. tt)
     (λ c. search needs)
     (λ c. search needs)
+    (λ c. search needs)
+    (λ c κs. tt)
+    (λ c. search needs)
+    (λ c. search needs)
+    (λ c. search needs)
+    (λ c κs. tt)
     (λ c. search needs)
     (λ c. search needs)
     loop-again
+    (λ c. search needs)
+    (λ c. search needs)
+    (λ c κs. tt)
+    (λ c. search needs)
+    (λ c. search needs)
     (λ c κs. tt)
     returns)

@@ -1,0 +1,116 @@
+// Runs the calls in place on cases of the bench, and writes how many there are and how many differ.
+ghost use Prim.Native.Nat.{_≤_};
+use in_place32::insert_once;
+use in_place32::remove_once;
+use libc::STDOUT_FILENO;
+use modint32::Code;
+use modint32::Residue;
+use power_sum32::power_sum::Last;
+use power_sum32::power_sum::PowerSumQuackU32;
+
+// The last code, or the prime, which is no residue, for none.
+fn last_number(last: Last) -> u32 {
+    match last {
+        Last::Nothing => Residue::MODULUS,
+        Last::Code(x) => x.value(),
+    }
+}
+
+// Whether a sketch has these first three places, this count and this last number.
+fn holds(
+    sketch: PowerSumQuackU32,
+    first: u32,
+    second: u32,
+    third: u32,
+    count: u32,
+    last: u32,
+) -> bool {
+    let sums = sketch.sums;
+    let a = sums[0];
+    let b = sums[1];
+    let c = sums[2];
+    if a.value() != first {
+        return false;
+    }
+    if b.value() != second {
+        return false;
+    }
+    if c.value() != third {
+        return false;
+    }
+    if sketch.count != count {
+        return false;
+    }
+    let stored = sketch.last;
+    last_number(stored) == last
+}
+
+// P5: the threshold 3, with 10 and 12 inserted.
+fn two_insertions() -> bool {
+    let fresh = PowerSumQuackU32::new(3);
+    let empty = fresh.sketch;
+    let once = insert_once(empty, Code(10));
+    let one = once.sketch;
+    let twice = insert_once(one, Code(12));
+    if twice.refusal != 0 {
+        return false;
+    }
+    let two = twice.sketch;
+    holds(two, 22, 244, 2728, 2, 12)
+}
+
+// P11: the threshold 2, with 4294967295 inserted, and then a code of the same residue removed.
+fn back_and_forth(code: u32, last: u32) -> bool {
+    let fresh = PowerSumQuackU32::new(2);
+    let empty = fresh.sketch;
+    let there = insert_once(empty, Code(4294967295));
+    let one = there.sketch;
+    let back = remove_once(one, Code(code));
+    if back.refusal != 0 {
+        return false;
+    }
+    let none = back.sketch;
+    holds(none, 0, 0, 0, 0, last)
+}
+
+// A sketch whose second place is used though its threshold is 1 is refused by 12, and stays as it was.
+fn refused() -> bool {
+    let fresh = PowerSumQuackU32::new(2);
+    let empty = fresh.sketch;
+    let once = insert_once(empty, Code(10));
+    let one = once.sketch;
+    let sums = one.sums;
+    let last = one.last;
+    let ill_formed = PowerSumQuackU32 {
+        threshold: 1,
+        sums,
+        count: one.count,
+        last,
+    };
+    let again = insert_once(ill_formed, Code(7));
+    if again.refusal != 12 {
+        return false;
+    }
+    let after = again.sketch;
+    if after.threshold != 1 {
+        return false;
+    }
+    holds(after, 10, 100, 0, 1, 10)
+}
+
+fn one_unless(same: bool) -> u8
+    ensures { λ r. ⌜ r ≤ 1 ⌝ }
+{
+    if same { 0 } else { 1 }
+}
+
+fn main() {
+    let differences = one_unless(two_insertions())
+        + one_unless(back_and_forth(4294967295, 4))
+        + one_unless(back_and_forth(4, Residue::MODULUS))
+        + one_unless(refused());
+    let digit = [b'0' + differences];
+    io::write_all(STDOUT_FILENO, b"4 cases, ");
+    io::write_all(STDOUT_FILENO, &digit);
+    io::write_all(STDOUT_FILENO, b" differences\n");
+}

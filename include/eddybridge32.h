@@ -1,0 +1,186 @@
+/*
+ * eddybridge32.h: power-sum sketches of 32-bit codes, for C and C++.
+ *
+ * A sketch is a small summary of a collection of codes. Keep one of what was sent and one of what arrived, subtract the second from the
+ * first, and decode: out of the log of what was sent come the entries that did not arrive.
+ *
+ * The functions are those of the crate exports32, whose contracts are proved. `rt staticlib exports32` writes
+ * target/staticlib/libexports32.a, for x86-64 Linux; link it after the program's own objects.
+ *
+ *
+ * Codes and residues
+ *
+ * A code is any uint32_t. Its residue is what EDDY32_MODULUS, a prime, leaves of it: the code itself below the modulus, otherwise the code
+ * minus the modulus. Every function takes codes as they are and reduces them first.
+ *
+ *
+ * The words of a sketch
+ *
+ * A sketch is an array of EDDY32_WORDS words, which the caller owns:
+ *
+ *     word 0         the threshold T, from 1 to EDDY32_GREATEST: how many entries can be found missing
+ *     word 1         the count, modulo 2^32
+ *     word 2         1 if there is a last code, 0 if there is none
+ *     word 3         the residue of the last code, 0 if there is none
+ *     words 4 to 35  the T sums, each below the modulus, and then zeros
+ *
+ * Words that do not keep to this are no sketch, and neither is a slice of another length: refusal 12. So every sketch has one form in
+ * words, and two sketches are equal where their words are. Words may be copied, kept and compared like any others.
+ *
+ *
+ * Slices
+ *
+ * A slice is passed as a pointer and the number of its elements, not of its bytes. The pointer is aligned, is not NULL even where the number
+ * is 0, and is good for that many elements. What is passed without `const` overlaps nothing else that is passed to the same call. No
+ * function keeps a pointer, allocates, or has state of its own, so calls on different memory may run at the same time.
+ *
+ *
+ * Refusals
+ *
+ * Every call takes every input. A call that cannot do what it is asked answers the number of a refusal, 0 where nothing is refused:
+ *
+ *      1  the threshold is 0 or above EDDY32_GREATEST
+ *      2  the thresholds differ
+ *      3  there is no last code
+ *      4  the count is above the threshold
+ *      5  a slice to write to is too short; for the words of a sketch, of another length than EDDY32_WORDS
+ *      6  fewer than 8 bytes
+ *      7  no sum, or more than EDDY32_GREATEST
+ *      8  a sum that is read, or a coefficient, is the modulus or more
+ *     11  no coefficient
+ *     12  a sketch given is not well formed
+ *
+ * Of several that are due, the first in the order that stands beside the function is answered. Where a call is refused, every other number
+ * of its answer is 0, and all that was lent to it stays as it was.
+ *
+ *
+ * An example (include/example.c is the whole program)
+ *
+ *     uint32_t sent[EDDY32_WORDS], got[EDDY32_WORDS], log[3] = {1, 2, 10}, missing[3];
+ *
+ *     eddy32_new(3, sent, EDDY32_WORDS);
+ *     eddy32_new(3, got, EDDY32_WORDS);
+ *     for (size_t i = 0; i < 3; i++)
+ *         eddy32_insert(sent, EDDY32_WORDS, log[i]);
+ *     eddy32_insert(got, EDDY32_WORDS, 1);
+ *     eddy32_insert(got, EDDY32_WORDS, 10);
+ *     eddy32_sub_assign(sent, EDDY32_WORDS, got, EDDY32_WORDS);
+ *     eddy32_number found = eddy32_decode_with_log(sent, EDDY32_WORDS, log, 3, missing, 3);
+ *
+ * Then found.refusal is 0, found.value is 1, and missing[0] is 2.
+ */
+#ifndef EDDYBRIDGE32_H
+#define EDDYBRIDGE32_H
+
+#include <stddef.h>
+#include <stdint.h>
+
+#ifdef __cplusplus
+extern "C" {
+#endif
+
+#define EDDY32_WORDS 36
+#define EDDY32_GREATEST 32
+#define EDDY32_MODULUS 4294967291u
+
+/* How many numbers were written; or a refusal, and 0. */
+typedef struct {
+    uint32_t refusal;
+    size_t value;
+} eddy32_number;
+
+/* A value; or a refusal, and 0. */
+typedef struct {
+    uint32_t refusal;
+    uint32_t value;
+} eddy32_value;
+
+/* A power, and how many field multiplications were made for it. */
+typedef struct {
+    uint32_t value;
+    uint32_t multiplications;
+} eddy32_power;
+
+
+/* ---- sketches ---- */
+
+/* Makes a fresh sketch: sums 0, count 0, no last code. Refusals: 1, 5. */
+uint32_t eddy32_new(size_t threshold, uint32_t *out, size_t out_len);
+
+/* 1 if the words are those of a well-formed sketch, otherwise 0. */
+uint32_t eddy32_well_formed(const uint32_t *s, size_t s_len);
+
+/* Inserts a code of residue x: sum k grows by x^k, the count by 1, and x becomes the last code. Refusal: 12. */
+uint32_t eddy32_insert(uint32_t *s, size_t s_len, uint32_t code);
+
+/* Removes a code of residue x: sum k falls by x^k, the count by 1. The last code becomes none if it equals the code as given, unreduced.
+   Refusal: 12. */
+uint32_t eddy32_remove(uint32_t *s, size_t s_len, uint32_t code);
+
+/* Subtracts rhs from s, in s: sums and counts are subtracted, and there is no last code. Refusals: 12 for either, 2. */
+uint32_t eddy32_sub_assign(uint32_t *s, size_t s_len, const uint32_t *rhs, size_t rhs_len);
+
+/* Writes s minus rhs to out. The smaller threshold is kept and the further sums are dropped. Refusals: 12 for either, 5. */
+uint32_t eddy32_sub(const uint32_t *s, size_t s_len, const uint32_t *rhs, size_t rhs_len, uint32_t *out, size_t out_len);
+
+
+/* ---- coefficients, values and decoding ---- */
+
+/* Writes the coefficients a1 .. an of x^n + a1 x^(n-1) + .. + an, n being the count, to the front of coeffs; later places stay. The value is
+   n. Refusals: 12, 4, 5. */
+eddy32_number eddy32_to_coeffs(const uint32_t *s, size_t s_len, uint32_t *coeffs, size_t coeffs_len);
+
+/* The value of x^n + a1 x^(n-1) + .. + an at the residue of x, for n coefficients. Refusals: 11, 8. */
+eddy32_value eddy32_eval(const uint32_t *coeffs, size_t coeffs_len, uint32_t x);
+
+/* Writes the entries of the log at which the polynomial of the coefficients is 0 to the front of out, as they stand in the log, in its order,
+   repeats kept; nothing where the count is 0. Later places stay. out needs as many places as the log has entries, whatever is found. The
+   value is how many were written. Refusals: 12, 4, 5. */
+eddy32_number eddy32_decode_with_log(const uint32_t *s, size_t s_len, const uint32_t *log, size_t log_len, uint32_t *out, size_t out_len);
+
+
+/* ---- packets ---- */
+
+/* Writes the sketch as 8 + 4 T bytes, each number lowest byte first: count, last code, sums. Later bytes stay. The value is the number of
+   bytes. Refusals: 12, 3, 5. */
+eddy32_number eddy32_serialize(const uint32_t *s, size_t s_len, uint8_t *buf, size_t buf_len);
+
+/* The same with at most `hint` sums; the count stays that of all. Refusals: 12, 3, 5. */
+eddy32_number eddy32_serialize_with_hint(const uint32_t *s, size_t s_len, uint8_t *buf, size_t buf_len, size_t hint);
+
+/* Reads a sketch whose threshold is the number of sums that the bytes hold; up to three trailing bytes are ignored, and the last code is
+   reduced. Refusals: 6, 7, 8, 5. */
+uint32_t eddy32_deserialize(const uint8_t *buf, size_t buf_len, uint32_t *out, size_t out_len);
+
+
+/* ---- the field of codes modulo EDDY32_MODULUS; every answer is a residue ---- */
+
+/* The residue of c. */
+uint32_t eddy32_reduce(uint32_t c);
+
+/* a + b. */
+uint32_t eddy32_add(uint32_t a, uint32_t b);
+
+/* a - b. (eddy32_sub is on sketches.) */
+uint32_t eddy32_minus(uint32_t a, uint32_t b);
+
+/* -a. */
+uint32_t eddy32_neg(uint32_t a);
+
+/* a times b. */
+uint32_t eddy32_mul(uint32_t a, uint32_t b);
+
+/* The inverse of a; 0 for 0. */
+uint32_t eddy32_inv(uint32_t a);
+
+/* a to the power e, which is not reduced; 1 for the exponent 0. */
+eddy32_power eddy32_pow(uint32_t a, uint32_t e);
+
+/* The number of multiplications of eddy32_pow alone. */
+uint32_t eddy32_pow_multiplications(uint32_t e);
+
+#ifdef __cplusplus
+}
+#endif
+
+#endif

@@ -1,0 +1,75 @@
+/*
+ * The example of eddybridge32.h, whole: which of the codes in the log did not arrive, what a sketch is as bytes, and what a refusal looks like.
+ *
+ *     cc -I include include/example.c target/staticlib/libexports32.a -o example
+ *
+ * It prints
+ *
+ *     found=1
+ *     missing=2
+ *     packet=02 00 00 00 0a 00 00 00 0b 00 00 00 65 00 00 00
+ *     refusal=12
+ */
+#include "eddybridge32.h"
+
+#include <stdio.h>
+
+static int missing_codes(void)
+{
+    uint32_t sent[EDDY32_WORDS], got[EDDY32_WORDS], log[3] = {1, 2, 10}, missing[3];
+
+    eddy32_new(3, sent, EDDY32_WORDS);
+    eddy32_new(3, got, EDDY32_WORDS);
+    for (size_t i = 0; i < 3; i++)
+        eddy32_insert(sent, EDDY32_WORDS, log[i]);
+    eddy32_insert(got, EDDY32_WORDS, 1);
+    eddy32_insert(got, EDDY32_WORDS, 10);
+    eddy32_sub_assign(sent, EDDY32_WORDS, got, EDDY32_WORDS);
+    eddy32_number found = eddy32_decode_with_log(sent, EDDY32_WORDS, log, 3, missing, 3);
+
+    if (found.refusal != 0)
+        return 1;
+    printf("found=%zu\n", found.value);
+    for (size_t i = 0; i < found.value; i++)
+        printf("missing=%u\n", (unsigned)missing[i]);
+    return 0;
+}
+
+static int packet(void)
+{
+    uint32_t s[EDDY32_WORDS], again[EDDY32_WORDS];
+    uint8_t buf[8 + 4 * 2];
+
+    eddy32_new(2, s, EDDY32_WORDS);
+    eddy32_insert(s, EDDY32_WORDS, 1);
+    eddy32_insert(s, EDDY32_WORDS, 10);
+    eddy32_number written = eddy32_serialize(s, EDDY32_WORDS, buf, sizeof buf);
+    if (written.refusal != 0)
+        return 1;
+    printf("packet=");
+    for (size_t i = 0; i < written.value; i++)
+        printf("%02x%s", (unsigned)buf[i], i + 1 < written.value ? " " : "\n");
+
+    /* Read back, it is the same sketch, word for word. */
+    if (eddy32_deserialize(buf, written.value, again, EDDY32_WORDS) != 0)
+        return 1;
+    for (size_t i = 0; i < EDDY32_WORDS; i++)
+        if (again[i] != s[i])
+            return 1;
+    return 0;
+}
+
+static int refusal(void)
+{
+    uint32_t s[EDDY32_WORDS];
+
+    eddy32_new(2, s, EDDY32_WORDS);
+    s[4] = EDDY32_MODULUS; /* No sum is the modulus or more: the words are no sketch, and they stay as they are. */
+    printf("refusal=%u\n", (unsigned)eddy32_insert(s, EDDY32_WORDS, 7));
+    return s[1] != 0 || s[4] != EDDY32_MODULUS;
+}
+
+int main(void)
+{
+    return missing_codes() || packet() || refusal();
+}
