@@ -1,4 +1,4 @@
--- Evaluation, coefficients and decoding determine their answer, their refusal, and what they leave in the buffer that they were lent: any two outcomes
+-- Coefficients and decoding determine their answer, their refusal, and what they leave in the buffer that they were lent: any two outcomes
 -- that a contract allows for one input are equal.
 -- Assumes nothing.
 use Prim.Native.Nat.{ℕ}
@@ -6,17 +6,10 @@ use mathlib.Core.Path.{_≡_, _∙_, sym}
 use mathlib.Core.List.{List}
 use contract.Lifetimes.{Lfts}
 use denote.Ref.{RefT, now}
-use Rattle.modint32.specs.declared.Code.{Code}
-use Rattle.rules.specs.Determines.{Determines}
-use Rattle.rules.proofs.Determined.{by-equation}
 use Rattle.power_sum32.specs.declared.power_sum.PowerSumQuackU32.{PowerSumQuackU32}
 use Rattle.power_sum32.specs.declared.power_sum.Number.{Number}
-use Rattle.decoder32.proofs.evaluator.eval.Reads as eval
 use Rattle.decoder32.proofs.to_coeffs.Reads as to-coeffs
 use Rattle.decoder32.proofs.decode_with_log.Reads as decode-with-log
-
-pub eval-determined : (κs : Lfts 1) (coeffs coeffs′ : RefT (List ℕ)) (x : Code) → Determines (λ r. eval.Post κs (coeffs, (x, tt)) r (coeffs′, (x, tt)))
-eval-determined κs coeffs coeffs′ x = by-equation _
 
 pub to-coeffs-determined : (κs : Lfts 1) (s : PowerSumQuackU32) (coeffs coeffs₁ coeffs₂ : RefT (List ℕ)) (r₁ r₂ : Number)
     → to-coeffs.Post κs (s, (coeffs, tt)) r₁ (s, (coeffs₁, tt)) → to-coeffs.Post κs (s, (coeffs, tt)) r₂ (s, (coeffs₂, tt)) → (r₁ ≡ r₂) × (now coeffs₁ ≡ now coeffs₂)

@@ -1,4 +1,4 @@
--- Idle programs: no contract of evaluation, coefficients and decoding is met by refusing everything or by a fixed list, shown by an input at which the
+-- Idle programs: no contract of coefficients and decoding is met by refusing everything or by a fixed list, shown by an input at which the
 -- rule's answer differs.
 -- Assumes nothing.
 use Prim.Native.Nat.{ℕ, suc}
@@ -10,7 +10,6 @@ use contract.Lifetimes.{Lfts}
 use denote.Ref.{RefT, now}
 use Rattle.numbers.specs.Power.{powerWithin, powerMod}
 use Rattle.numbers.specs.Table.{every}
-use Rattle.modint32.specs.declared.Code.{Code}
 use Rattle.rules.specs.Kind.{kind32}
 use Rattle.rules.specs.Sketch as sketch
 use Rattle.rules.specs.Sketch.{fresh, each, wellFormed}
@@ -21,26 +20,15 @@ use Rattle.rules.specs.Calls.{refusalOf, written}
 use Rattle.power_sum32.specs.declared.power_sum.PowerSumQuackU32.{PowerSumQuackU32}
 use Rattle.power_sum32.specs.declared.power_sum.Number.{Number}
 use Rattle.power_sum32.specs.Answers.{built}
-use Rattle.decoder32.specs.declared.evaluator.Evaluated.{Evaluated}
-use Rattle.decoder32.specs.Answers.{coefficientsOf, evalOf, decodeOf}
-use Rattle.decoder32.proofs.evaluator.eval.Reads as eval
+use Rattle.decoder32.specs.Answers.{coefficientsOf, decodeOf}
 use Rattle.decoder32.proofs.to_coeffs.Reads as to-coeffs
 use Rattle.decoder32.proofs.decode_with_log.Reads as decode-with-log
-
-unfoldable pub ten : Code
-ten = record { 0 = 10 }
 
 -- A sketch of threshold 3 with the codes 10 and 12 in it.
 unfoldable pub both : PowerSumQuackU32
 both = built (sketch.insert kind32 (sketch.insert kind32 (fresh 3) 10) 12)
 
 -- ---- refusing everything
-
-pub eval-refusing-falls : (κs : Lfts 1) (coeffs coeffs₁ : RefT (List ℕ)) (r : Evaluated) (n : ℕ) → now coeffs ≡ 1 ∷ [] → r .refusal ≡ suc n
-    → eval.Post κs (coeffs, (ten, tt)) r (coeffs₁, (ten, tt)) → ⊥
-unfolding ten evalOf calls.evaluate decoding.evaluate every
-eval-refusing-falls κs coeffs coeffs₁ r n given-coeffs e p =
-    let z : suc n ≡ 0 = sym e ∙ ap (λ (a : Evaluated). a .refusal) (p ∙ ap (λ (l : List ℕ). evalOf l 10) given-coeffs) in omega arith
 
 pub to-coeffs-refusing-falls : (κs : Lfts 1) (coeffs coeffs₁ : RefT (List ℕ)) (r : Number) (n : ℕ) → now coeffs ≡ 0 ∷ 0 ∷ [] → r .refusal ≡ suc n
     → to-coeffs.Post κs (both, (coeffs, tt)) r (both, (coeffs₁, tt)) → ⊥

@@ -1,26 +1,16 @@
--- What evaluation, coefficients and decoding answer, beside the rules. Definitions only.
+-- What coefficients and decoding answer, beside the rules. Definitions only.
 -- Assumes nothing.
 use Prim.Native.Nat.{ℕ}
 use mathlib.Core.List.{List}
-use Rattle.modint32.specs.Answers.{wrap}
 use Rattle.rules.specs.Kind.{kind32}
 use Rattle.rules.specs.Calls as calls
-use Rattle.rules.specs.Calls.{Outcome, refused, given}
+use Rattle.rules.specs.Calls.{Outcome}
 use Rattle.power_sum32.specs.declared.power_sum.PowerSumQuackU32.{PowerSumQuackU32}
 use Rattle.power_sum32.specs.Answers.{view, wellFormedOf}
-use Rattle.decoder32.specs.declared.evaluator.Evaluated.{Evaluated}
-
--- The answer of an evaluation.
-abbrev pub valued : Outcome ℕ → Evaluated
-valued (refused n) = record { refusal = n; value = wrap 0 }
-valued (given x) = record { refusal = 0; value = wrap x }
 
 -- Coefficients for a buffer of so many places.
 unfoldable pub coefficientsOf : PowerSumQuackU32 → ℕ → Outcome (List ℕ)
 coefficientsOf s places = calls.coefficients kind32 (wellFormedOf s) (view s) places
-
-unfoldable pub evalOf : List ℕ → ℕ → Evaluated
-evalOf cs c = valued (calls.evaluate kind32 cs c)
 
 -- Decoding of a log for a buffer of so many places.
 unfoldable pub decodeOf : PowerSumQuackU32 → List ℕ → ℕ → Outcome (List ℕ)

@@ -18,8 +18,6 @@ use modint32::precompute;
 use power_sum32::power_sum::Number;
 use power_sum32::power_sum::PowerSumQuackU32;
 
-pub mod evaluator;
-
 // The sum s1 · ai + s2 · a(i-1) + .. + si · a1 modulo the prime, where `coeffs` begins with a1 .. ai.
 fn newton_sum(sums: [Residue; 32], coeffs: &[u32], i: usize) -> Residue
     requires { ⌜ (i ≤ 32) × (i ≤ length (now coeffs)) ⌝ }
@@ -36,14 +34,14 @@ fn newton_sum(sums: [Residue; 32], coeffs: &[u32], i: usize) -> Residue
 
 // The core of `decode_with_log`: the entries of the log at which the value is 0 go to the front of `out`. Answers how many there are.
 fn listed(coeffs: &[u32], log: &[u32], out: &mut [u32]) -> usize
-    requires { ⌜ (1 ≤ length (now coeffs)) × (length (now log) ≤ length (now out)) ⌝ }
+    requires { ⌜ length (now log) ≤ length (now out) ⌝ }
     ensures many { λ r. ⌜ r ≡ length (keep (λ (c : ℕ). eqb (evaluate kind32 (now (coeffs .entry)) c) 0) (now (log .entry))) ⌝ }
     ensures buffer { λ r. ⌜ now (out .exit) ≡ keep (λ (c : ℕ). eqb (evaluate kind32 (now (coeffs .entry)) c) 0) (now (log .entry)) ++ drop r (now (out .entry)) ⌝ }
 {
     let mut n: usize = 0;
     for i in 0..log.len() {
         let code = log[i];
-        let value = evaluator::value(coeffs, Residue::reduce(Code(code)));
+        let value = evaluator32::value(coeffs, Residue::reduce(Code(code)));
         if value.value() == 0 {
             out[n] = code;
             n += 1;

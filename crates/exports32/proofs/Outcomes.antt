@@ -26,7 +26,7 @@ use Rattle.power_sum32.specs.declared.power_sum.Answer.{Answer}
 use Rattle.power_sum32.specs.declared.power_sum.Number as Struct
 use Rattle.power_sum32.specs.Answers as power-sum
 use Rattle.power_sum32.specs.Answers.{built, sketchAnswer, empty, newOf, insertOf, removeOf, subAssignOf, subOf}
-use Rattle.packet32.specs.Answers.{readOf}
+use Rattle.packet_reader32.specs.Answers.{readOf}
 use Rattle.exports32.specs.Words.{sketchWords, wordsFit, sketchIn, wordsOf, inWords, intoWords, insertIn, removeIn, subAssignIn, numbered}
 use Rattle.exports32.specs.Structs.{structIn, structWords, stored}
 use Rattle.exports32.proofs.RoundTrip.{fit-length, fit-threshold}

@@ -20,9 +20,10 @@ use Rattle.rules.proofs.Sums.{unwrapped}
 use Rattle.rules.proofs.WellFormed.{last-code-fits}
 use Rattle.power_sum32.specs.Answers.{lastOf, lastTo, view, wellFormedOf, empty}
 use Rattle.decoder32.specs.Answers.{coefficientsOf, decodeOf}
-use Rattle.packet32.specs.Answers.{writeOf, writeWithHintOf}
+use Rattle.packet_writer32.specs.Answers.{writeOf, writeWithHintOf}
 use Rattle.exports32.specs.Words.{sketchWords, lastIn, lastShaped, wordsFit, sketchIn, coefficientsIn, decodeIn, writeIn, writeWithHintIn}
-use Rattle.exports32.specs.Structs.{allBelow, exact, structAt, structIn}
+use Rattle.evaluator32.specs.Answers.{allBelow}
+use Rattle.exports32.specs.Structs.{exact, structAt, structIn}
 use Rattle.exports32.proofs.RoundTrip.{fit-length, fit-shaped, fit-well}
 
 -- ---- words that fit say a struct as it stands

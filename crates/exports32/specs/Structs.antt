@@ -3,20 +3,15 @@
 use Prim.Native.Nat.{ℕ}
 use mathlib.Core.Bool.{Bool, cond, _&&_}
 use mathlib.Core.List.{List, _∷_, _++_, map}
-use lib.Dec.{eqb, ltb}
+use lib.Dec.{eqb}
 use lib.ListN.{length, getD, drop}
-use Rattle.numbers.specs.Table.{every}
 use Rattle.modint32.specs.Answers.{val, wrap}
-use Rattle.rules.specs.Kind.{kind32}
 use Rattle.rules.specs.Calls.{Outcome, refused, given, unless}
 use Rattle.power_sum32.specs.declared.power_sum.PowerSumQuackU32.{PowerSumQuackU32}
 use Rattle.power_sum32.specs.declared.power_sum.Answer.{Answer}
 use Rattle.power_sum32.specs.Answers.{lastOf, lastTo, empty}
+use Rattle.evaluator32.specs.Answers.{allBelow}
 use Rattle.exports32.specs.Words.{sketchWords, lastIn, lastShaped, lastWords}
-
--- Whether every number is below the prime.
-abbrev pub allBelow : List ℕ → Bool
-allBelow ws = every (λ (k w : ℕ). ltb w (kind32 .modulus)) 0 ws
 
 -- Whether words say a struct as it stands: as many as a sketch has, the last code said in the one way, and last code and places below the prime.
 unfoldable pub exact : List ℕ → Bool

@@ -11,7 +11,7 @@ pub extern "C" fn eddy32_serialize(s: &[u32], buf: &mut [u8]) -> Number
     ensures answer { λ r. ⌜ r ≡ numbered (writeIn (now (s .entry)) (length (now (buf .entry)))) ⌝ }
     ensures buffer { λ r. ⌜ now (buf .exit) ≡ written (writeIn (now (s .entry)) (length (now (buf .entry)))) (now (buf .entry)) ⌝ }
 {
-    let answer = packet32::serialize(words::from_words(s), buf);
+    let answer = packet_writer32::serialize(words::from_words(s), buf);
     Number {
         refusal: answer.refusal,
         value: answer.value,
@@ -23,7 +23,7 @@ pub extern "C" fn eddy32_serialize_with_hint(s: &[u32], buf: &mut [u8], hint: us
     ensures answer { λ r. ⌜ r ≡ numbered (writeWithHintIn (now (s .entry)) hint (length (now (buf .entry)))) ⌝ }
     ensures buffer { λ r. ⌜ now (buf .exit) ≡ written (writeWithHintIn (now (s .entry)) hint (length (now (buf .entry)))) (now (buf .entry)) ⌝ }
 {
-    let answer = packet32::serialize_with_hint(words::from_words(s), buf, hint);
+    let answer = packet_writer32::serialize_with_hint(words::from_words(s), buf, hint);
     Number {
         refusal: answer.refusal,
         value: answer.value,
@@ -35,5 +35,5 @@ pub extern "C" fn eddy32_deserialize(buf: &[u8], out: &mut [u32]) -> u32
     ensures refusal { λ r. ⌜ r ≡ refusalOf (readIn (now (buf .entry)) (length (now (out .entry)))) ⌝ }
     ensures words { λ r. ⌜ now (out .exit) ≡ written (readIn (now (buf .entry)) (length (now (out .entry)))) (now (out .entry)) ⌝ }
 {
-    words::store(packet32::deserialize(buf), out)
+    words::store(packet_reader32::deserialize(buf), out)
 }

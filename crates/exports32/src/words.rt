@@ -8,8 +8,9 @@ ghost use Rattle.modint32.specs.Answers.{val, wrap};
 ghost use Rattle.rules.specs.Kind.{kind32};
 ghost use Rattle.rules.specs.Calls.{refusalOf, written};
 ghost use Rattle.power_sum32.specs.Answers.{lastOf, lastTo, empty};
+ghost use Rattle.evaluator32.specs.Answers.{allBelow};
 ghost use Rattle.exports32.specs.Words.{sketchWords, lastIn, lastShaped, lastWords};
-ghost use Rattle.exports32.specs.Structs.{allBelow, exact, structIn, structWords, stored};
+ghost use Rattle.exports32.specs.Structs.{exact, structIn, structWords, stored};
 use modint32::Code;
 use modint32::Residue;
 use power_sum32::power_sum::Answer;
@@ -22,17 +23,6 @@ fn last_shaped(has: u32, code: u32) -> bool
     if has == 0 { code == 0 } else { has == 1 }
 }
 
-fn all_below(words: &[u32]) -> bool
-    ensures { λ r. ⌜ r ≡ allBelow (now (words .entry)) ⌝ }
-{
-    for k in 0..words.len() {
-        if words[k] >= Residue::MODULUS {
-            return false;
-        }
-    }
-    true
-}
-
 // Whether words say a struct as it stands, with nothing to reduce.
 fn exact(words: &[u32]) -> bool
     ensures { λ r. ⌜ r ≡ exact (now (words .entry)) ⌝ }
@@ -43,7 +33,7 @@ fn exact(words: &[u32]) -> bool
     if !last_shaped(words[2], words[3]) {
         return false;
     }
-    all_below(&words[3..])
+    evaluator32::all_below(&words[3..])
 }
 
 fn last_in(has: u32, code: u32) -> Last

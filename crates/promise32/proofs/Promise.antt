@@ -31,19 +31,21 @@ use Rattle.power_sum32.specs.declared.power_sum.Answer.{Answer}
 use Rattle.power_sum32.specs.declared.power_sum.Number.{Number}
 use Rattle.power_sum32.specs.Answers.{view, built, wellFormedOf, empty, answered, sketchAnswer, numbered, newOf, insertOf, removeOf, subAssignOf, subOf}
 use Rattle.decoder32.specs.Answers.{decodeOf}
-use Rattle.packet32.specs.Answers.{writeOf, writeWithHintOf, readOf}
+use Rattle.packet_writer32.specs.Answers.{writeOf, writeWithHintOf}
+use Rattle.packet_reader32.specs.Answers.{readOf}
 use Rattle.power_sum32.proofs.Chain.{view-built, built-well-formed, new-chain, insert-chain, remove-chain, sub-assign-chain, sub-chain}
 use Rattle.decoder32.proofs.Chain.{decode-chain}
-use Rattle.packet32.proofs.Chain.{write-chain, write-with-hint-chain, read-chain}
+use Rattle.packet_writer32.proofs.Chain.{write-chain, write-with-hint-chain}
+use Rattle.packet_reader32.proofs.Chain.{read-chain}
 use Rattle.power_sum32.proofs.power_sum.PowerSumQuackU32.new.Reads as new
 use Rattle.power_sum32.proofs.power_sum.PowerSumQuackU32.insert.Reads as insert
 use Rattle.power_sum32.proofs.power_sum.PowerSumQuackU32.remove.Reads as remove
 use Rattle.power_sum32.proofs.power_sum.PowerSumQuackU32.sub_assign.Reads as sub-assign
 use Rattle.power_sum32.proofs.power_sum.PowerSumQuackU32.sub.Reads as sub
 use Rattle.decoder32.proofs.decode_with_log.Reads as decode-with-log
-use Rattle.packet32.proofs.serialize.Reads as serialize
-use Rattle.packet32.proofs.serialize_with_hint.Reads as serialize-with-hint
-use Rattle.packet32.proofs.deserialize.Reads as deserialize
+use Rattle.packet_writer32.proofs.serialize.Reads as serialize
+use Rattle.packet_writer32.proofs.serialize_with_hint.Reads as serialize-with-hint
+use Rattle.packet_reader32.proofs.deserialize.Reads as deserialize
 
 -- A sketch got by calls along a history, each answering without a refusal. A sketch that is written, without a hint or with one of at least 1, and
 -- whose written bytes alone are read again, carries its history on.

@@ -2,8 +2,8 @@
 -- Assumes nothing.
 use Prim.Native.Nat.{ℕ, _+_, _*_, _%_, _≤_, _<_}
 use mathlib.Core.Path.{_≡_, refl, sym, _∙_, ap}
-use mathlib.Core.List.{List, _∷_}
-use native.Mathlib.Nat.{mul-one, mod-mod, mul-comm}
+use mathlib.Core.List.{List, [], _∷_}
+use native.Mathlib.Nat.{mul-one, mod-mod, mul-comm, pow-zero}
 use native.Mathlib.Numerals.{add-one}
 use native.Mathlib.Omega.{arith}
 use lib.ListN.{length, getD}
@@ -45,6 +45,12 @@ module _ (K : Kind) (cs : List ℕ) (c : ℕ) where
   horner-done {result} {k} i l =
       let e : k ≡ length cs = omega arith in
       i .value ∙ ap (λ (n : ℕ). horner (entry (1 ∷ cs)) (residue K c) n % K .modulus) e ∙ sym (evaluate-as-horner K cs c)
+
+-- Without coefficients the value is 1.
+pub evaluate-empty : (K : Kind) (cs : List ℕ) (c : ℕ) → length cs ≡ 0 → residue K 1 ≡ evaluate K cs c
+unfolding evaluate
+evaluate-empty K [] c e = ap (λ (z : ℕ). (z + 0) % K .modulus) (sym (pow-zero (residue K c)))
+evaluate-empty K (a ∷ cs) c e = omega arith
 
 -- The value at a code's residue is that at the code.
 pub evaluate-residue : (K : Kind) (cs : List ℕ) (c : ℕ) → evaluate K cs (residue K c) ≡ evaluate K cs c

@@ -84,9 +84,7 @@ slice-aggregate-listed c =
     built-part-count kind32 (view (e .before .before .before .before .args .sketch)) zeros _ (c .before .before .put-coefficients .ensures)
 
 listed-requires : tie.Need-listed-requires
-listed-requires c κs =
-    let b = c .before .before .before .before .before in
-    (omega (arith, slice-aggregate-listed (c .before), b .if4 .left), b .before .if3 .left)
+listed-requires c κs = c .before .before .before .before .before .before .if3 .left
 
 returns-5 : tie.Need-returns-5
 unfolding decodeOf

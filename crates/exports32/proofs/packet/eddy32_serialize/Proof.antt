@@ -4,7 +4,7 @@ use mathlib.Core.Path.{ap, _∙_}
 use lib.ListN.{length}
 use borrow.Author.Needs.{needs}
 use Rattle.power_sum32.specs.declared.power_sum.PowerSumQuackU32.{PowerSumQuackU32}
-use Rattle.packet32.specs.Answers.{writeOf}
+use Rattle.packet_writer32.specs.Answers.{writeOf}
 use Rattle.exports32.proofs.Outcomes.{counted}
 use Rattle.exports32.proofs.Structs.{write-in}
 use Rattle.exports32.proofs.packet.eddy32_serialize.Statement.{statement}

@@ -1,0 +1,2 @@
+-- The answers of evaluation beside the rules.
+pub mod Answers

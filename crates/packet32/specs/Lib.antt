@@ -1,2 +1,0 @@
--- The answers of packets beside the rules.
-pub mod Answers

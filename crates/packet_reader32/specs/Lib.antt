@@ -1,0 +1,2 @@
+-- The answers of reading a packet beside the rules.
+pub mod Answers

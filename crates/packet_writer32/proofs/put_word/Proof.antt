@@ -1,0 +1,23 @@
+-- Four stores at the front put the number's bytes there.
+-- Assumes nothing.
+use native.Mathlib.Omega.{arith}
+use lib.ListN.{length-set}
+use borrow.Author.Needs.{needs}
+use Rattle.rules.proofs.Bytes.{bytes-of-four}
+use Rattle.packet_writer32.proofs.put_word.Statement.{statement}
+use Rattle.packet_writer32.proofs.put_word.Tie as tie
+
+pub put-word-spec : {M : Type 1} → statement M
+put-word-spec =
+    tie.close
+    (tie.spec
+    (λ c. search needs)
+    (λ c. search needs)
+    (λ c. search needs)
+    (λ c. simp length-set (omega arith))
+    (λ c. search needs)
+    (λ c. simp length-set (omega arith))
+    (λ c. search needs)
+    (λ c. simp length-set (omega arith))
+    (λ c. search needs)
+    (λ c. bytes-of-four (c .args .part .now) (c .args .x) (c .pre)))

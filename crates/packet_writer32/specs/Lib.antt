@@ -1,0 +1,2 @@
+-- The answers of writing a packet beside the rules.
+pub mod Answers
