@@ -1,7 +1,6 @@
 // The desk program: reads standard input to its end, and writes one answer.
+use desk_reader::Reading;
 use desk_text::answer;
-use desk_text::reader;
-use desk_text::reader::Reading;
 use libc::STDIN_FILENO;
 use libc::STDOUT_FILENO;
 
@@ -9,22 +8,22 @@ use libc::STDOUT_FILENO;
 // A loop that is proved has to end, and nothing says that an input does: the reads are counted down from a number that no run uses up.
 fn read_all(log: &mut [u32]) -> Reading {
     let mut piece = io::large_buffer();
-    let mut reading = reader::start();
+    let mut reading = desk_reader::start();
     let mut reads = u64::MAX;
     while reads > 0 {
         let got = libc::read(STDIN_FILENO, &mut piece);
         if got < 0 {
-            return reader::start();
+            return desk_reader::start();
         }
         if got == 0 {
             return reading;
         }
         let n = io::count(got, &piece);
-        let fed = reader::feed(reading, &mut *log, &piece[..n]);
+        let fed = desk_reader::feed(reading, &mut *log, &piece[..n]);
         reading = fed.reading;
         reads -= 1;
     }
-    reader::start()
+    desk_reader::start()
 }
 
 fn main() {

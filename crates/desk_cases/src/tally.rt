@@ -3,7 +3,6 @@ ghost use mathlib.Core.Path.{_≡_};
 ghost use Prim.Native.Nat.{min};
 ghost use lib.ListN.{length};
 use desk_text::answer;
-use desk_text::reader;
 
 // How many inputs were tried, and how many of them were answered otherwise than expected.
 pub struct Tally {
@@ -30,11 +29,11 @@ fn in_pieces(input: &[u8], expected: &[u8], size: usize) -> bool {
         return false;
     }
     let mut log = [0u32; 8192];
-    let mut reading = reader::start();
+    let mut reading = desk_reader::start();
     let mut at: usize = 0;
     while at < input.len() {
         let end = at + smaller(size, input.len() - at);
-        let fed = reader::feed(reading, &mut log, &input[at..end]);
+        let fed = desk_reader::feed(reading, &mut log, &input[at..end]);
         if fed.refusal > 0 {
             return false;
         }

@@ -21,9 +21,9 @@ use Rattle.power_sum32.specs.declared.power_sum.Answer.{Answer}
 use Rattle.power_sum32.specs.declared.power_sum.Number.{Number}
 use Rattle.power_sum32.specs.Answers.{view, wellFormedOf, numbered, subAssignOf}
 use Rattle.decoder32.specs.Answers.{decodeOf}
-use Rattle.desk_text.specs.declared.reader.Phase.{Phase}
-use Rattle.desk_text.specs.declared.reader.Desk.{Desk}
-use Rattle.desk_text.specs.declared.reader.Reading.{Reading}
+use Rattle.desk_reader.specs.declared.Phase.{Phase}
+use Rattle.desk_reader.specs.declared.Desk.{Desk}
+use Rattle.desk_reader.specs.declared.Reading.{Reading}
 use Rattle.desk_text.specs.Answer.{isFresh, decidedOf, settledOf, endedBy, outcomeOf, finishOf}
 
 -- ---- what an answer tells of what a call comes to

@@ -11,12 +11,12 @@ use Rattle.decoder32.specs.Answers.{decodeOf}
 use Rattle.rules.specs.Calls.{Outcome, refused, unless}
 use Rattle.rules.specs.Desk.{mostLines, Report, reported}
 use Rattle.rules.specs.Text.{printed, fitting}
-use Rattle.desk_text.specs.declared.reader.Line.{Line}
-use Rattle.desk_text.specs.declared.reader.Line.the-variants.{Fresh, Word, Value, Bad}
-use Rattle.desk_text.specs.declared.reader.Phase.{Phase}
-use Rattle.desk_text.specs.declared.reader.Phase.the-variants.{Unbegun, Logs, Gots, Stopped}
-use Rattle.desk_text.specs.declared.reader.Desk.{Desk}
-use Rattle.desk_text.specs.declared.reader.Reading.{Reading}
+use Rattle.desk_reader.specs.declared.Line.{Line}
+use Rattle.desk_reader.specs.declared.Line.the-variants.{Fresh, Word, Value, Bad}
+use Rattle.desk_reader.specs.declared.Phase.{Phase}
+use Rattle.desk_reader.specs.declared.Phase.the-variants.{Unbegun, Logs, Gots, Stopped}
+use Rattle.desk_reader.specs.declared.Desk.{Desk}
+use Rattle.desk_reader.specs.declared.Reading.{Reading}
 
 -- No byte of a line has come.
 abbrev pub isFresh : Line → Bool

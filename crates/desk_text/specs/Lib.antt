@@ -1,4 +1,3 @@
--- What the reader, the writer and the whole answer come to, over the structs.
-pub mod Reader
+-- What the writer and the whole answer come to, over the structs.
 pub mod Writer
 pub mod Answer

@@ -9,12 +9,11 @@ ghost use Rattle.rules.specs.Desk.{mostLines};
 ghost use Rattle.rules.specs.Text.{printed, deskAnswer, fitting};
 ghost use Rattle.desk_text.specs.Writer.{Within};
 ghost use Rattle.desk_text.specs.Answer.{isFresh, decidedOf, settledOf, outcomeOf, finishOf};
-use crate::reader;
-use crate::reader::Desk;
-use crate::reader::Line;
-use crate::reader::Phase;
-use crate::reader::Reading;
 use crate::writer;
+use desk_reader::Desk;
+use desk_reader::Line;
+use desk_reader::Phase;
+use desk_reader::Reading;
 use power_sum32::power_sum::Number;
 
 fn is_fresh(l: Line) -> bool
@@ -87,11 +86,11 @@ pub fn finish(r: Reading, log: &[u32], out: &mut [u8]) -> Number
     ensures text { λ z. ⌜ now (out .exit) ≡ written (finishOf r (now (log .entry)) (length (now (out .entry)))) (now (out .entry)) ⌝ }
     ensures within { λ z. ⌜ Within (z .value) (now (out .exit)) ⌝ }
 {
-    if log.len() < reader::MOST_LINES {
+    if log.len() < desk_reader::MOST_LINES {
         return writer::too_short();
     }
     let desk = r.desk;
-    if desk.entries > reader::MOST_LINES {
+    if desk.entries > desk_reader::MOST_LINES {
         return writer::too_short();
     }
     end(r, log, out)
@@ -104,7 +103,7 @@ pub fn answer(input: &[u8], out: &mut [u8]) -> Number
     ensures within { λ r. ⌜ Within (r .value) (now (out .exit)) ⌝ }
 {
     let mut log = [0u32; 8192];
-    let fed = reader::feed(reader::start(), &mut log, input);
+    let fed = desk_reader::feed(desk_reader::start(), &mut log, input);
     let reading = fed.reading;
     finish(reading, &log, out)
 }

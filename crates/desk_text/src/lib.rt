@@ -1,4 +1,3 @@
-// The desk program's text: its lines read byte by byte, in pieces of any length, and the answer written into a lent buffer.
+// The desk program's answer: what the lines that were read come to, written as text into a lent buffer.
 pub mod answer;
-pub mod reader;
 pub mod writer;

@@ -1,0 +1,201 @@
+-- The reader stands where the rules stand, whatever the pieces.
+-- Assumes nothing.
+use Prim.Native.Nat.{ℕ, suc, _≤_, _<_, zero-le}
+use mathlib.Core.Path.{_≡_, refl, ap, sym, _∙_}
+use mathlib.Core.Bool.{Bool, true, false, cond}
+use mathlib.Core.List.{List, [], _∷_, _++_, foldl, foldl-append}
+use native.Mathlib.Numerals.{add-one}
+use native.Mathlib.Omega.{arith}
+use lib.Dec.{eqb, ltb}
+use lib.ListN.{length, take, set, length-append}
+use lib.Seq.{take-suc-set}
+use borrow.Author.Tests.{ltb-true, le-leb}
+use Rattle.rules.specs.Kind.{kind32}
+use Rattle.rules.specs.Sketch as sketch
+use Rattle.rules.specs.Sketch.{Sketch, WellFormed, inRange}
+use Rattle.rules.specs.Calls as calls
+use Rattle.rules.specs.Calls.{given, unless}
+use Rattle.rules.specs.Lines.{LF, parsed}
+use Rattle.rules.specs.Desk.{mostLines, Seen, unbegun, logs, gots, stopped, next, sketchOfCodes}
+use Rattle.rules.proofs.WellFormed.{fresh-well-formed, insert-well-formed, in-range-parts}
+use Rattle.rules.proofs.Desk as rules
+use Rattle.rules.proofs.Desk.{State, stateAfter}
+use Rattle.power_sum32.specs.declared.power_sum.Answer.{Answer}
+use Rattle.power_sum32.specs.Answers.{built, empty, sketchAnswer, newOf, insertOf}
+use Rattle.power_sum32.proofs.Chain.{insert-chain}
+use Rattle.desk_reader.specs.declared.Key.the-variants.{Threshold, Log, Got}
+use Rattle.desk_reader.specs.declared.Line.{Line}
+use Rattle.desk_reader.specs.declared.Line.the-variants.{Fresh, Word, Value, Bad}
+use Rattle.desk_reader.specs.declared.Phase.the-variants.{Unbegun, Logs, Gots, Stopped}
+use Rattle.desk_reader.specs.declared.Desk.{Desk}
+use Rattle.desk_reader.specs.declared.Reading.{Reading}
+use Rattle.desk_reader.specs.Reader.{lineByte, emptyDesk, startedDesk, coded, logDesk, gotDesk, takeLine, takenLog, Standing, standing, reading, byteOf, fedOf, startOf, feedAnswer, feedLog}
+use Rattle.desk_reader.proofs.Steps.{taken-length}
+use Rattle.desk_reader.proofs.Parse.{said, led, led-says, led-more}
+
+-- ---- sketches of codes
+
+abbrev pub codes : ℕ → List ℕ → Sketch
+codes = sketchOfCodes kind32
+
+-- The threshold is in range.
+abbrev pub InRange : ℕ → Type 0
+InRange T = (1 ≤ T) × (T ≤ kind32 .greatest)
+
+more-well-formed : (s : Sketch) (l : List ℕ) → WellFormed kind32 s → WellFormed kind32 (foldl (sketch.insert kind32) s l)
+more-well-formed s [] w = w
+more-well-formed s (c ∷ l) w = more-well-formed (sketch.insert kind32 s c) l (insert-well-formed kind32 s c w)
+
+pub codes-well-formed : (T : ℕ) (l : List ℕ) → InRange T → WellFormed kind32 (codes T l)
+codes-well-formed T l r = more-well-formed (sketch.fresh T) l (fresh-well-formed kind32 T (r .0) (r .1))
+
+more-threshold : (s : Sketch) (l : List ℕ) → foldl (sketch.insert kind32) s l .threshold ≡ s .threshold
+unfolding sketch.insert
+more-threshold s [] = refl
+more-threshold s (c ∷ l) = more-threshold (sketch.insert kind32 s c) l
+
+pub codes-threshold : (T : ℕ) (l : List ℕ) → codes T l .threshold ≡ T
+unfolding sketch.fresh
+codes-threshold T l = more-threshold (sketch.fresh T) l
+
+codes-more : (T : ℕ) (l : List ℕ) (c : ℕ) → codes T (l ++ (c ∷ [])) ≡ sketch.insert kind32 (codes T l) c
+codes-more T l c = foldl-append (sketch.insert kind32) (sketch.fresh T) l (c ∷ [])
+
+-- One code more, by the call.
+insert-more : (T : ℕ) (l : List ℕ) (c : ℕ) → InRange T → insertOf (built (codes T l)) (coded c) .sketch ≡ built (codes T (l ++ (c ∷ [])))
+insert-more T l c r =
+    ap (λ (a : Answer). a .sketch) (insert-chain (codes T l) (coded c) (codes-well-formed T l r)) ∙ ap built (sym (codes-more T l c))
+
+-- ---- where the reader stands
+
+abbrev deskOf : Seen → Desk
+deskOf unbegun = emptyDesk Unbegun
+deskOf (logs T l) = record { phase = Logs; entries = length l; sent = built (codes T l); arrived = built (codes T []) }
+deskOf (gots T l g) = record { phase = Gots; entries = length l; sent = built (codes T l); arrived = built (codes T g) }
+deskOf (stopped n) = emptyDesk (Stopped n)
+
+abbrev entriesOf : Seen → List ℕ
+entriesOf unbegun = []
+entriesOf (logs T l) = l
+entriesOf (gots T l g) = l
+entriesOf (stopped n) = []
+
+abbrev Ranged : Seen → Type 0
+Ranged unbegun = Unit {0}
+Ranged (logs T l) = InRange T
+Ranged (gots T l g) = InRange T
+Ranged (stopped n) = Unit {0}
+
+-- The whole lines: the desk, and the entries at the front of the lent log.
+pub record Holds (s : Seen) (d : Desk) (log : List ℕ) : Type 0 where
+  pub desk : d ≡ deskOf s
+  pub entries : take (length (entriesOf s)) log ≡ entriesOf s
+  pub few : length (entriesOf s) ≤ mostLines
+  pub ranged : Ranged s
+
+-- With the line begun.
+pub record Tied (s : State) (w : Standing) : Type 0 where
+  pub lines : Holds (s .seen) (w .reading .desk) (w .log)
+  pub line : w .reading .line ≡ led (s .begun)
+  pub room : mostLines ≤ length (w .log)
+
+-- The log has no more entries than it may.
+pub entries-few : (s : Seen) (d : Desk) (log : List ℕ) → Holds s d log → d .entries ≤ mostLines
+entries-few unbegun d log h = rw (h .desk) zero-le
+entries-few (logs T l) d log h = rw (h .desk) (h .few)
+entries-few (gots T l g) d log h = rw (h .desk) (h .few)
+entries-few (stopped n) d log h = rw (h .desk) zero-le
+
+-- ---- a whole line
+
+holds-stopped : (n : ℕ) (log : List ℕ) → Holds (stopped n) (emptyDesk (Stopped n)) log
+holds-stopped n log = record { desk = refl; entries = refl; few = zero-le; ranged = tt }
+
+holds-started : (T : ℕ) (log : List ℕ) (ok : Bool) → inRange kind32 T ≡ ok
+    → Holds (cond ok (logs T []) (stopped 1)) (startedDesk (sketchAnswer empty (unless ok 1 (given (sketch.fresh T))))) log
+holds-started T log true e = record { desk = refl; entries = refl; few = zero-le; ranged = in-range-parts kind32 T e }
+holds-started T log false e = holds-stopped 1 log
+
+module _ (T c : ℕ) (l log : List ℕ) (front : take (length l) log ≡ l) (range : InRange T) where
+  holds-logged : (room : Bool) → ltb (length l) mostLines ≡ room → mostLines ≤ length log
+      → Holds (cond room (logs T (l ++ (c ∷ []))) (stopped 10)) (cond room (logDesk (deskOf (logs T l)) c) (emptyDesk (Stopped 10))) (cond room (set log (length l) c) log)
+  holds-logged true e places =
+      let more = ltb-true (length l) mostLines e in
+      let one-more : length (l ++ (c ∷ [])) ≡ suc (length l) = rw length-append (omega arith) in
+      let within : length l < length log = omega arith in
+      record {
+        desk = rw (insert-more T l c range, one-more, add-one);
+        entries = rw (one-more, take-suc-set log (length l) c within, front);
+        few = omega arith;
+        ranged = range;
+      }
+  holds-logged false e places = holds-stopped 10 log
+
+  holds-got : (g : List ℕ) → length l ≤ mostLines → Holds (gots T l (g ++ (c ∷ []))) (gotDesk (deskOf (gots T l g)) c) log
+  holds-got g few = record { desk = rw (insert-more T g c range); entries = front; few = few; ranged = range }
+
+-- A whole line does to the reader what it does to the rules.
+takes : (s : Seen) (l : Line) (log : List ℕ) → Holds s (deskOf s) log → mostLines ≤ length log
+    → Holds (next kind32 s (said l)) (takeLine (deskOf s) l) (takenLog (deskOf s) l log)
+unfolding next takeLine takenLog newOf calls.make
+takes unbegun Fresh log h room = holds-stopped 9 log
+takes unbegun (Word k at) log h room = holds-stopped 9 log
+takes unbegun (Value Threshold v) log h room = holds-started v log (inRange kind32 v) refl
+takes unbegun (Value Log v) log h room = holds-stopped 9 log
+takes unbegun (Value Got v) log h room = holds-stopped 9 log
+takes unbegun Bad log h room = holds-stopped 9 log
+takes (logs T l) Fresh log h room = holds-stopped 9 log
+takes (logs T l) (Word k at) log h room = holds-stopped 9 log
+takes (logs T l) (Value Threshold v) log h room = holds-stopped 9 log
+takes (logs T l) (Value Log v) log h room = holds-logged T v l log (h .entries) (h .ranged) (ltb (length l) mostLines) refl room
+takes (logs T l) (Value Got v) log h room = holds-got T v l log (h .entries) (h .ranged) [] (h .few)
+takes (logs T l) Bad log h room = holds-stopped 9 log
+takes (gots T l g) Fresh log h room = holds-stopped 9 log
+takes (gots T l g) (Word k at) log h room = holds-stopped 9 log
+takes (gots T l g) (Value Threshold v) log h room = holds-stopped 9 log
+takes (gots T l g) (Value Log v) log h room = holds-stopped 9 log
+takes (gots T l g) (Value Got v) log h room = holds-got T v l log (h .entries) (h .ranged) g (h .few)
+takes (gots T l g) Bad log h room = holds-stopped 9 log
+takes (stopped n) Fresh log h room = holds-stopped n log
+takes (stopped n) (Word k at) log h room = holds-stopped n log
+takes (stopped n) (Value Threshold v) log h room = holds-stopped n log
+takes (stopped n) (Value Log v) log h room = holds-stopped n log
+takes (stopped n) (Value Got v) log h room = holds-stopped n log
+takes (stopped n) Bad log h room = holds-stopped n log
+
+-- ---- a byte, and any bytes
+
+tied-byte : (s : State) (w : Standing) (b : ℕ) (ends : Bool) → Tied s w
+    → Tied (cond ends (record { seen = next kind32 (s .seen) (parsed kind32 (s .begun)); begun = [] }) (record { seen = s .seen; begun = s .begun ++ (b ∷ []) }))
+    (cond ends (standing (reading (takeLine (w .reading .desk) (w .reading .line)) Fresh) (takenLog (w .reading .desk) (w .reading .line) (w .log)))
+    (standing (reading (w .reading .desk) (lineByte (w .reading .line) b)) (w .log)))
+tied-byte s w b true h =
+    let says : said (w .reading .line) ≡ parsed kind32 (s .begun) = ap said (h .line) ∙ led-says (s .begun) in
+    let same : Holds (s .seen) (deskOf (s .seen)) (w .log) = record { desk = refl; entries = h .lines .entries; few = h .lines .few; ranged = h .lines .ranged } in
+    record {
+      lines = rw (h .lines .desk, ← says) (takes (s .seen) (w .reading .line) (w .log) same (h .room));
+      line = refl;
+      room = rw (taken-length (w .reading .desk) (w .reading .line) (w .log)) (h .room);
+    }
+tied-byte s w b false h = record { lines = h .lines; line = ap (λ (l : Line). lineByte l b) (h .line) ∙ sym (led-more (s .begun) b); room = h .room }
+
+tied-bytes : (s : State) (w : Standing) (bs : List ℕ) → Tied s w → Tied (rules.run kind32 s bs) (fedOf w bs)
+tied-bytes s w [] h = h
+tied-bytes s w (b ∷ bs) h = tied-bytes (rules.byte kind32 s b) (byteOf w b) bs (tied-byte s w b (eqb b LF) h)
+
+-- Before the first byte.
+pub tied-start : (log : List ℕ) → mostLines ≤ length log → Tied (stateAfter kind32 []) (standing startOf log)
+tied-start log room = record { lines = record { desk = refl; entries = refl; few = zero-le; ranged = tt }; line = refl; room = room }
+
+-- A piece after the bytes before it.
+tied-piece : (bs piece : List ℕ) (w : Standing) → Tied (stateAfter kind32 bs) w → Tied (stateAfter kind32 (bs ++ piece)) (fedOf w piece)
+tied-piece bs piece w h =
+    rw (foldl-append (rules.byte kind32) (record { seen = unbegun; begun = [] }) bs piece) (tied-bytes (stateAfter kind32 bs) w piece h)
+
+-- ---- the call
+
+module _ (bs : List ℕ) (r : Reading) (log : List ℕ) (tied : Tied (stateAfter kind32 bs) (standing r log)) where
+  -- Feeding a piece goes on with the bytes before it.
+  pub tied-feed : (piece : List ℕ) → Tied (stateAfter kind32 (bs ++ piece)) (standing (feedAnswer r log piece .reading) (feedLog r log piece))
+  unfolding feedAnswer feedLog
+  tied-feed piece = rw (le-leb mostLines (length log) (tied .room)) (tied-piece bs piece (standing r log) tied)

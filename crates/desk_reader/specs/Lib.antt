@@ -1,0 +1,2 @@
+-- What the reader's functions come to, over its structs.
+pub mod Reader
