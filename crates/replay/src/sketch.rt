@@ -2,19 +2,10 @@
 use crate::agree;
 use crate::slots;
 use crate::widths;
+use exports32::answers::Number;
 use exports32::decoder;
 use exports32::packet;
 use exports32::power_sum;
-
-fn new(args: &[u32], expected: &[u32], held: &mut [u32; 108]) -> bool {
-    if args.len() != 2 {
-        return false;
-    }
-    let mut words = slots::load(held, args[0]);
-    let refusal = power_sum::eddy32_new(widths::size(args[1]), &mut words);
-    slots::save(held, args[0], words);
-    agree::slot(refusal, words, expected)
-}
 
 fn put(args: &[u32], expected: &[u32], held: &mut [u32; 108]) -> bool {
     if args.len() != 37 {
@@ -32,83 +23,48 @@ fn well_formed(args: &[u32], expected: &[u32], held: &[u32; 108]) -> bool {
     agree::one(power_sum::eddy32_well_formed(&words), expected)
 }
 
-fn insert(args: &[u32], expected: &[u32], held: &mut [u32; 108]) -> bool {
-    if args.len() != 2 {
-        return false;
+// A call that changes a sketch, given a number or further sketches. Answers the refusal.
+fn changed(kind: u32, words: &mut [u32], left: &[u32], right: &[u32], number: u32) -> u32 {
+    match kind {
+        1 => power_sum::eddy32_new(widths::size(number), words),
+        4 => power_sum::eddy32_insert(words, number),
+        5 => power_sum::eddy32_remove(words, number),
+        6 => power_sum::eddy32_sub_assign(words, right),
+        _ => power_sum::eddy32_sub(left, right, words),
     }
-    let mut words = slots::load(held, args[0]);
-    let refusal = power_sum::eddy32_insert(&mut words, args[1]);
-    slots::save(held, args[0], words);
-    agree::slot(refusal, words, expected)
 }
 
-fn remove(args: &[u32], expected: &[u32], held: &mut [u32; 108]) -> bool {
-    if args.len() != 2 {
+// The slot that changes is the first, and of kind 7 the last; the second argument is a number or a slot.
+fn change(kind: u32, args: &[u32], expected: &[u32], held: &mut [u32; 108]) -> bool {
+    if args.len() < 2 {
         return false;
     }
-    let mut words = slots::load(held, args[0]);
-    let refusal = power_sum::eddy32_remove(&mut words, args[1]);
-    slots::save(held, args[0], words);
-    agree::slot(refusal, words, expected)
-}
-
-fn sub_assign(args: &[u32], expected: &[u32], held: &mut [u32; 108]) -> bool {
-    if args.len() != 2 {
-        return false;
-    }
-    if args[1] > 2 {
-        return false;
-    }
-    let mut words = slots::load(held, args[0]);
-    let right = slots::load(held, args[1]);
-    let refusal = power_sum::eddy32_sub_assign(&mut words, &right);
-    slots::save(held, args[0], words);
-    agree::slot(refusal, words, expected)
-}
-
-fn sub(args: &[u32], expected: &[u32], held: &mut [u32; 108]) -> bool {
-    if args.len() != 3 {
-        return false;
-    }
-    if args[1] > 2 {
-        return false;
-    }
-    if args[2] > 2 {
-        return false;
-    }
+    let slot = if kind == 7 {
+        args[args.len() - 1]
+    } else {
+        args[0]
+    };
     let left = slots::load(held, args[0]);
     let right = slots::load(held, args[1]);
-    let mut words = slots::load(held, args[2]);
-    let refusal = power_sum::eddy32_sub(&left, &right, &mut words);
-    slots::save(held, args[2], words);
+    let mut words = slots::load(held, slot);
+    let refusal = changed(kind, &mut words, &left, &right, args[1]);
+    slots::save(held, slot, words);
     agree::slot(refusal, words, expected)
 }
 
-fn coeffs_into(words: &[u32], buffer: &mut [u32], expected: &[u32]) -> bool {
-    let number = decoder::eddy32_to_coeffs(words, buffer);
+fn listed(kind: u32, words: &[u32], log: &[u32], buffer: &mut [u32]) -> Number {
+    match kind {
+        8 => decoder::eddy32_to_coeffs(words, buffer),
+        _ => decoder::eddy32_decode_with_log(words, log, buffer),
+    }
+}
+
+fn list_into(kind: u32, words: &[u32], log: &[u32], buffer: &mut [u32], expected: &[u32]) -> bool {
+    let number = listed(kind, words, log, &mut *buffer);
     agree::number_and_words(number, buffer, expected)
 }
 
-fn to_coeffs(args: &[u32], expected: &[u32], held: &[u32; 108]) -> bool {
-    if args.len() != 3 {
-        return false;
-    }
-    let room = widths::size(args[1]);
-    if room > 512 {
-        return false;
-    }
-    let words = slots::load(held, args[0]);
-    let fill = args[2];
-    let mut buffer = [fill; 512];
-    coeffs_into(&words, &mut buffer[0..room], expected)
-}
-
-fn decode_into(words: &[u32], log: &[u32], buffer: &mut [u32], expected: &[u32]) -> bool {
-    let number = decoder::eddy32_decode_with_log(words, log, buffer);
-    agree::number_and_words(number, buffer, expected)
-}
-
-fn decode_with_log(args: &[u32], expected: &[u32], held: &[u32; 108]) -> bool {
+fn list(kind: u32, args: &[u32], expected: &[u32], held: &[u32; 108]) -> bool {
     if args.len() < 3 {
         return false;
     }
@@ -119,57 +75,40 @@ fn decode_with_log(args: &[u32], expected: &[u32], held: &[u32; 108]) -> bool {
     let words = slots::load(held, args[0]);
     let fill = args[2];
     let mut buffer = [fill; 512];
-    decode_into(&words, &args[3..], &mut buffer[0..room], expected)
+    list_into(kind, &words, &args[3..], &mut buffer[0..room], expected)
 }
 
-fn serialize_into(words: &[u32], buffer: &mut [u8], expected: &[u32]) -> bool {
-    let number = packet::eddy32_serialize(words, buffer);
-    agree::number_and_bytes(number, buffer, expected)
+fn serialized(kind: u32, words: &[u32], hint: usize, buffer: &mut [u8]) -> Number {
+    match kind {
+        11 => packet::eddy32_serialize(words, buffer),
+        _ => packet::eddy32_serialize_with_hint(words, buffer, hint),
+    }
 }
 
-fn serialize(args: &[u32], expected: &[u32], held: &[u32; 108]) -> bool {
-    if args.len() != 3 {
-        return false;
-    }
-    let room = widths::size(args[1]);
-    if room > 512 {
-        return false;
-    }
-    if args[2] > 255 {
-        return false;
-    }
-    let words = slots::load(held, args[0]);
-    let fill = widths::low_byte(args[2]);
-    let mut buffer = [fill; 512];
-    serialize_into(&words, &mut buffer[0..room], expected)
-}
-
-fn serialize_with_hint_into(
+fn serialize_into(
+    kind: u32,
     words: &[u32],
+    hint: u32,
     buffer: &mut [u8],
-    hint: usize,
     expected: &[u32],
 ) -> bool {
-    let number = packet::eddy32_serialize_with_hint(words, buffer, hint);
+    let number = serialized(kind, words, widths::size(hint), &mut *buffer);
     agree::number_and_bytes(number, buffer, expected)
 }
 
-fn serialize_with_hint(args: &[u32], expected: &[u32], held: &[u32; 108]) -> bool {
-    if args.len() != 4 {
+// The room and the fill are the last arguments; of kind 12 the second is the hint.
+fn serialize(kind: u32, args: &[u32], expected: &[u32], held: &[u32; 108]) -> bool {
+    if args.len() < 3 {
         return false;
     }
-    let room = widths::size(args[2]);
+    let room = widths::size(args[args.len() - 2]);
     if room > 512 {
         return false;
     }
-    if args[3] > 255 {
-        return false;
-    }
     let words = slots::load(held, args[0]);
-    let hint = widths::size(args[1]);
-    let fill = widths::low_byte(args[3]);
+    let fill = widths::low_byte(args[args.len() - 1]);
     let mut buffer = [fill; 512];
-    serialize_with_hint_into(&words, &mut buffer[0..room], hint, expected)
+    serialize_into(kind, &words, args[1], &mut buffer[0..room], expected)
 }
 
 fn deserialize_from(packet: &[u8], slot: u32, expected: &[u32], held: &mut [u32; 108]) -> bool {
@@ -194,37 +133,13 @@ fn deserialize(args: &[u32], expected: &[u32], held: &mut [u32; 108]) -> bool {
     deserialize_from(&packet[0..length], args[0], expected, held)
 }
 
-fn read(kind: u32, args: &[u32], expected: &[u32], held: &[u32; 108]) -> bool {
-    match kind {
-        3 => well_formed(args, expected, held),
-        8 => to_coeffs(args, expected, held),
-        10 => decode_with_log(args, expected, held),
-        11 => serialize(args, expected, held),
-        _ => serialize_with_hint(args, expected, held),
-    }
-}
-
-fn change(kind: u32, args: &[u32], expected: &[u32], held: &mut [u32; 108]) -> bool {
-    match kind {
-        1 => new(args, expected, held),
-        2 => put(args, expected, held),
-        4 => insert(args, expected, held),
-        5 => remove(args, expected, held),
-        6 => sub_assign(args, expected, held),
-        7 => sub(args, expected, held),
-        _ => deserialize(args, expected, held),
-    }
-}
-
 pub(crate) fn run(kind: u32, args: &[u32], expected: &[u32], held: &mut [u32; 108]) -> bool {
-    if args.len() == 0 {
-        return false;
-    }
-    if args[0] > 2 {
-        return false;
-    }
     match kind {
-        3 | 8 | 10 | 11 | 12 => read(kind, args, expected, held),
+        2 => put(args, expected, held),
+        3 => well_formed(args, expected, held),
+        8 | 10 => list(kind, args, expected, held),
+        11 | 12 => serialize(kind, args, expected, held),
+        13 => deserialize(args, expected, held),
         _ => change(kind, args, expected, held),
     }
 }
