@@ -1,5 +1,5 @@
--- Idle programs: no contract of coefficients and decoding is met by refusing everything or by a fixed list, shown by an input at which the
--- rule's answer differs.
+-- Idle programs: the contract of decoding is not met by refusing everything or by a fixed list, shown by an input at which the rule's answer
+-- differs.
 -- Assumes nothing.
 use Prim.Native.Nat.{ℕ, suc}
 use mathlib.Core.Path.{_≡_, sym, _∙_, ap, ap₂}
@@ -20,8 +20,7 @@ use Rattle.rules.specs.Calls.{refusalOf, written}
 use Rattle.power_sum32.specs.declared.power_sum.PowerSumQuackU32.{PowerSumQuackU32}
 use Rattle.power_sum32.specs.declared.power_sum.Number.{Number}
 use Rattle.power_sum32.specs.Answers.{built}
-use Rattle.decoder32.specs.Answers.{coefficientsOf, decodeOf}
-use Rattle.decoder32.proofs.to_coeffs.Reads as to-coeffs
+use Rattle.decoder32.specs.Answers.{decodeOf}
 use Rattle.decoder32.proofs.decode_with_log.Reads as decode-with-log
 
 -- A sketch of threshold 3 with the codes 10 and 12 in it.
@@ -29,12 +28,6 @@ unfoldable pub both : PowerSumQuackU32
 both = built (sketch.insert kind32 (sketch.insert kind32 (fresh 3) 10) 12)
 
 -- ---- refusing everything
-
-pub to-coeffs-refusing-falls : (κs : Lfts 1) (coeffs coeffs₁ : RefT (List ℕ)) (r : Number) (n : ℕ) → now coeffs ≡ 0 ∷ 0 ∷ [] → r .refusal ≡ suc n
-    → to-coeffs.Post κs (both, (coeffs, tt)) r (both, (coeffs₁, tt)) → ⊥
-unfolding both sketch.insert fresh each every wellFormed coefficientsOf calls.coefficients
-to-coeffs-refusing-falls κs coeffs coeffs₁ r n lent e p =
-    let z : suc n ≡ 0 = sym e ∙ ap (λ (a : Number). a .refusal) (p .0) ∙ ap (λ (l : List ℕ). refusalOf (coefficientsOf both (length l))) lent in omega arith
 
 -- Decoding, of the log 1, 10 into a buffer of two places.
 module _ (κs : Lfts 2) (log out log₁ out₁ : RefT (List ℕ)) (r : Number) (the-log : now log ≡ 1 ∷ 10 ∷ []) (lent : now out ≡ 0 ∷ 0 ∷ [])

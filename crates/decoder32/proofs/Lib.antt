@@ -1,5 +1,4 @@
--- What is proved of the calls beside their contracts, a file for each matter.
-pub mod Lists
+-- What is proved of decoding beside its contract, a file for each matter.
 pub mod Chain
 pub mod Determined
 pub mod Idle

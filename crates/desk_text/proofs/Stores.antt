@@ -15,7 +15,7 @@ use Rattle.rules.specs.Text.{decimal, refusalWord, countWord, foundWord, missin
 use Rattle.rules.proofs.Text.{decimal-digit, decimal-digits, decimal-short, lines-more, lines-part}
 use Rattle.power_sum32.specs.declared.power_sum.Number.{Number}
 use Rattle.power_sum32.specs.Answers.{numbered}
-use Rattle.decoder32.proofs.Lists.{refusal, listing}
+use Rattle.power_sum32.proofs.Lists.{refusal, listing}
 use Rattle.desk_text.specs.Writer.{Put, foundText, Within}
 
 -- ---- texts one behind the other

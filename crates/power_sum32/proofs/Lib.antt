@@ -3,3 +3,4 @@ pub mod Chain
 pub mod Determined
 pub mod Idle
 pub mod Wrong
+pub mod Lists

@@ -15,8 +15,9 @@ use Rattle.rules.proofs.Build.{built-part-long, built-part-count, built-part}
 use Rattle.rules.proofs.Keep.{decode-none, decode-kept}
 use Rattle.rules.proofs.Outcomes.{decode-malformed, decode-over, decode-short, decode-given}
 use Rattle.power_sum32.specs.Answers.{view}
+use Rattle.coefficients32.proofs.Front.{at-front}
 use Rattle.decoder32.specs.Answers.{decodeOf}
-use Rattle.decoder32.proofs.Lists.{refusal, listing}
+use Rattle.power_sum32.proofs.Lists.{refusal, listing}
 use Rattle.decoder32.proofs.decode_with_log.Statement.{statement}
 use Rattle.decoder32.proofs.decode_with_log.Tie as tie
 
@@ -64,24 +65,26 @@ array-borrow-prefix-coeffs c =
     let e = l .before .before .before in
     omega (arith, l .if2 .left, threshold-in-range kind32 _ _ _ (passed (e .before .well-formed .ensures) (e .if1 .left)) .1)
 
-slice-aggregate-put-coefficients : tie.Need-slice-aggregate-put-coefficients
-slice-aggregate-put-coefficients c = sym (length-take-le _ zeros (array-borrow-prefix-coeffs (c .before)))
-
-put-coefficients-requires : tie.Need-put-coefficients-requires
-put-coefficients-requires c κs =
-    let l = c .before .before .before in
-    let e = l .before .before .before in
-    (passed (e .before .well-formed .ensures) (e .if1 .left), l .if2 .left, omega (arith, slice-aggregate-put-coefficients c))
+slice-aggregate-to-coeffs : tie.Need-slice-aggregate-to-coeffs
+slice-aggregate-to-coeffs c = sym (length-take-le _ zeros (array-borrow-prefix-coeffs (c .before)))
 
 array-share-prefix-coeffs : tie.Need-array-share-prefix-coeffs
 array-share-prefix-coeffs c =
-    let e = c .before .before .before .before .before .before .before .before in
-    built-part-long kind32 (view (e .before .before .before .before .args .sketch)) zeros _ (c .before .put-coefficients .ensures)
+    let m = c .before in
+    let l = m .before .before .before .before in
+    let e = l .before .before .before in
+    let s = e .before .before .before .before .args .sketch in
+    built-part-long kind32 (view s) zeros _
+    (at-front s _ _ (passed (e .before .well-formed .ensures) (e .if1 .left)) (l .if2 .left) (omega (arith, slice-aggregate-to-coeffs (m .before))) (m .to-coeffs .ensures .1))
 
 slice-aggregate-listed : tie.Need-slice-aggregate-listed
 slice-aggregate-listed c =
-    let e = c .before .before .before .before .before .before .before .before .before in
-    built-part-count kind32 (view (e .before .before .before .before .args .sketch)) zeros _ (c .before .before .put-coefficients .ensures)
+    let m = c .before .before in
+    let l = m .before .before .before .before in
+    let e = l .before .before .before in
+    let s = e .before .before .before .before .args .sketch in
+    built-part-count kind32 (view s) zeros _
+    (at-front s _ _ (passed (e .before .well-formed .ensures) (e .if1 .left)) (l .if2 .left) (omega (arith, slice-aggregate-to-coeffs (m .before))) (m .to-coeffs .ensures .1))
 
 listed-requires : tie.Need-listed-requires
 listed-requires c κs = c .before .before .before .before .before .before .if3 .left
@@ -98,7 +101,9 @@ returns-5 c =
     listing (a .out .now) (c .number-with5 .ensures)
     (decode-given kind32 (view (a .sketch)) (passed (e .before .well-formed .ensures) (e .if1 .left)) (f .before .if2 .left) (a .log .now) (length (a .out .now)) (f .if3 .left)
     ∙ ap given (sym (decode-kept kind32 (view (a .sketch)) (a .log .now) _ (b .if4 .left)
-    (built-part kind32 (view (a .sketch)) zeros _ (n .put-coefficients .ensures) (array-borrow-prefix-coeffs b)))))
+    (built-part kind32 (view (a .sketch)) zeros _
+    (at-front (a .sketch) _ _ (passed (e .before .well-formed .ensures) (e .if1 .left)) (f .before .if2 .left) (omega (arith, slice-aggregate-to-coeffs (n .before))) (n .to-coeffs .ensures .1))
+    (array-borrow-prefix-coeffs b)))))
     (m .listed .ensures .0) (m .listed .ensures .1)
 
 pub decode-with-log-spec : {M : Type 1} → statement M
@@ -116,8 +121,8 @@ decode-with-log-spec =
     (λ c κs. tt)
     returns-4
     array-borrow-prefix-coeffs
-    slice-aggregate-put-coefficients
-    put-coefficients-requires
+    slice-aggregate-to-coeffs
+    (λ c κs. tt)
     array-share-prefix-coeffs
     slice-aggregate-listed
     listed-requires

@@ -2,7 +2,7 @@
 -- Assumes nothing.
 use lib.ListN.{length}
 use borrow.Author.Needs.{needs}
-use Rattle.decoder32.proofs.Lists.{refusal}
+use Rattle.power_sum32.proofs.Lists.{refusal}
 use Rattle.desk_text.specs.Answer.{finishOf}
 use Rattle.desk_text.proofs.Stores.{and-within}
 use Rattle.desk_text.proofs.Decision.{finish-with, finish-without, finish-over}

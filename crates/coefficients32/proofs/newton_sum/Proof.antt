@@ -8,8 +8,8 @@ use lib.ListN.{getD, List·getD-map}
 use Rattle.modint32.specs.Answers.{val, wrap}
 use Rattle.rules.specs.Kind.{kind32}
 use Rattle.rules.proofs.Build.{SumSoFar, sum-start, sum-turn, sum-done}
-use Rattle.decoder32.proofs.newton_sum.Statement.{statement}
-use Rattle.decoder32.proofs.newton_sum.Tie as tie
+use Rattle.coefficients32.proofs.newton_sum.Statement.{statement}
+use Rattle.coefficients32.proofs.newton_sum.Tie as tie
 
 abbrev Inv-loop : tie.InvT-loop
 Inv-loop coeffs i sums sum₀ j₀ sum j = SumSoFar kind32 (λ (k : ℕ). getD (map val sums) k 0 * getD coeffs (i - k - 1) 0) i (sum .0) j

@@ -12,8 +12,8 @@ use Rattle.rules.specs.Kind.{kind32}
 use Rattle.rules.proofs.Build.{BuiltSoFar, built-start, built-turn, built-done, built-none}
 use Rattle.rules.proofs.WellFormed.{threshold-in-range}
 use Rattle.power_sum32.specs.Answers.{view}
-use Rattle.decoder32.proofs.put_coefficients.Statement.{statement}
-use Rattle.decoder32.proofs.put_coefficients.Tie as tie
+use Rattle.coefficients32.proofs.put_coefficients.Statement.{statement}
+use Rattle.coefficients32.proofs.put_coefficients.Tie as tie
 
 abbrev Inv-loop : tie.InvT-loop
 Inv-loop coeffs₀ n sums i₀ coeffs i = BuiltSoFar kind32 (map val sums) n coeffs₀ coeffs i × (n ≤ 32)

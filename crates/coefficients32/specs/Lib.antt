@@ -1,0 +1,2 @@
+-- The answers of coefficients beside the rules.
+pub mod Answers
