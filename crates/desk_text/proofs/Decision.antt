@@ -19,7 +19,8 @@ use Rattle.rules.proofs.Room.{decode-fewer}
 use Rattle.power_sum32.specs.declared.power_sum.PowerSumQuackU32.{PowerSumQuackU32}
 use Rattle.power_sum32.specs.declared.power_sum.Answer.{Answer}
 use Rattle.power_sum32.specs.declared.power_sum.Number.{Number}
-use Rattle.power_sum32.specs.Answers.{view, wellFormedOf, numbered, subAssignOf}
+use Rattle.power_sum32.specs.Answers.{view, wellFormedOf, numbered}
+use Rattle.subtract32.specs.Answers.{subAssignOf}
 use Rattle.decoder32.specs.Answers.{decodeOf}
 use Rattle.desk_reader.specs.declared.Phase.{Phase}
 use Rattle.desk_reader.specs.declared.Desk.{Desk}

@@ -16,9 +16,10 @@ use Rattle.rules.specs.Desk.{mostLines, Seen, unbegun, logs, gots, stopped, clo
 use Rattle.rules.specs.Text.{printed, deskAnswer, fitting}
 use Rattle.rules.proofs.WellFormed.{subtract-well-formed}
 use Rattle.rules.proofs.Desk.{stateAfter, read-after}
-use Rattle.power_sum32.specs.Answers.{built, answered, subAssignOf}
+use Rattle.power_sum32.specs.Answers.{built, answered}
+use Rattle.subtract32.specs.Answers.{subAssignOf}
 use Rattle.decoder32.specs.Answers.{decodeOf}
-use Rattle.power_sum32.proofs.Chain.{sub-assign-chain}
+use Rattle.subtract32.proofs.Chain.{sub-assign-chain}
 use Rattle.decoder32.proofs.Chain.{decode-chain}
 use Rattle.desk_reader.specs.declared.Key.the-variants.{Threshold, Log, Got}
 use Rattle.desk_reader.specs.declared.Line.{Line}

@@ -6,7 +6,7 @@ use mathlib.Core.List.{List}
 use lib.Dec.{eqb, leb}
 use lib.ListN.{length, take}
 use Rattle.power_sum32.specs.declared.power_sum.Answer.{Answer}
-use Rattle.power_sum32.specs.Answers.{subAssignOf}
+use Rattle.subtract32.specs.Answers.{subAssignOf}
 use Rattle.decoder32.specs.Answers.{decodeOf}
 use Rattle.rules.specs.Calls.{Outcome, refused, unless}
 use Rattle.rules.specs.Desk.{mostLines, Report, reported}

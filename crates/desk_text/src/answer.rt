@@ -36,7 +36,7 @@ fn decide(d: Desk, log: &[u32], out: &mut [u8]) -> Number
     let sent = d.sent;
     let arrived = d.arrived;
     let entries = d.entries;
-    let difference = sent.sub_assign(arrived);
+    let difference = subtract32::sub_assign(sent, arrived);
     if difference.refusal > 0 {
         return writer::write_refused(out, difference.refusal);
     }

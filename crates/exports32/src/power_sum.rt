@@ -49,7 +49,7 @@ pub extern "C" fn eddy32_sub_assign(s: &mut [u32], rhs: &[u32]) -> u32
     ensures refusal { λ r. ⌜ r ≡ refusalOf (subAssignIn (now (s .entry)) (now (rhs .entry))) ⌝ }
     ensures words { λ r. ⌜ now (s .exit) ≡ written (subAssignIn (now (s .entry)) (now (rhs .entry))) (now (s .entry)) ⌝ }
 {
-    let answer = words::from_words(s).sub_assign(words::from_words(rhs));
+    let answer = subtract32::sub_assign(words::from_words(s), words::from_words(rhs));
     words::store(answer, s)
 }
 
@@ -58,6 +58,6 @@ pub extern "C" fn eddy32_sub(s: &[u32], rhs: &[u32], out: &mut [u32]) -> u32
     ensures refusal { λ r. ⌜ r ≡ refusalOf (subIn (now (s .entry)) (now (rhs .entry)) (length (now (out .entry)))) ⌝ }
     ensures words { λ r. ⌜ now (out .exit) ≡ written (subIn (now (s .entry)) (now (rhs .entry)) (length (now (out .entry)))) (now (out .entry)) ⌝ }
 {
-    let answer = words::from_words(s).sub(words::from_words(rhs));
+    let answer = subtract32::sub(words::from_words(s), words::from_words(rhs));
     words::store(answer, out)
 }

@@ -6,19 +6,19 @@ use mathlib.Core.Bool.{true}
 use mathlib.Core.List.{map}
 use lib.ListN.{length, length-map}
 use lib.Seq.{take-at}
-use borrow.Author.Tests.{le-leb, eq-eqb}
+use borrow.Author.Tests.{le-leb}
 use Rattle.modint32.specs.declared.Code.{Code}
 use Rattle.modint32.specs.Answers.{val, wrap}
 use Rattle.rules.specs.Kind.{kind32, counts}
 use Rattle.rules.specs.Sketch as rules
-use Rattle.rules.specs.Sketch.{Sketch, nothing, code, placed, fresh, insert, remove, subtract, WellFormed}
+use Rattle.rules.specs.Sketch.{Sketch, nothing, code, placed, fresh, insert, remove, WellFormed}
 use Rattle.rules.specs.Calls as calls
 use Rattle.rules.proofs.WellFormed.{placed-well-formed, placed-again, well-formed-parts}
 use Rattle.rules.proofs.Sums.{wrapped, unwrapped}
 use Rattle.power_sum32.specs.declared.power_sum.PowerSumQuackU32.{PowerSumQuackU32}
 use Rattle.power_sum32.specs.declared.power_sum.Last as Struct
 use Rattle.power_sum32.specs.declared.power_sum.Last.the-variants as variants
-use Rattle.power_sum32.specs.Answers.{lastOf, lastTo, view, built, wellFormedOf, answered, newOf, insertOf, removeOf, subAssignOf, subOf}
+use Rattle.power_sum32.specs.Answers.{lastOf, lastTo, view, built, wellFormedOf, answered, newOf, insertOf, removeOf}
 
 last-back : (a : rules.Last) → lastOf (lastTo a) ≡ a
 last-back nothing = refl
@@ -68,12 +68,3 @@ insert-chain g c w = rw (built-well-formed g w, view-built g w)
 pub remove-chain : (g : Sketch) (c : Code) → WellFormed kind32 g → removeOf (built g) c ≡ answered 0 (built (remove kind32 g (c .0)))
 unfolding removeOf calls.remove
 remove-chain g c w = rw (built-well-formed g w, view-built g w)
-
-pub sub-assign-chain : (g o : Sketch) → WellFormed kind32 g → WellFormed kind32 o → g .threshold ≡ o .threshold
-    → subAssignOf (built g) (built o) ≡ answered 0 (built (subtract kind32 g o))
-unfolding subAssignOf calls.subAssign
-sub-assign-chain g o w v e = rw (built-well-formed g w, built-well-formed o v, view-built g w, view-built o v, eq-eqb (g .threshold) (o .threshold) e)
-
-pub sub-chain : (g o : Sketch) → WellFormed kind32 g → WellFormed kind32 o → subOf (built g) (built o) ≡ answered 0 (built (subtract kind32 g o))
-unfolding subOf calls.sub
-sub-chain g o w v = rw (built-well-formed g w, built-well-formed o v, view-built g w, view-built o v)

@@ -12,8 +12,6 @@ use Rattle.power_sum32.proofs.power_sum.PowerSumQuackU32.last_value.Rea
 use Rattle.power_sum32.proofs.power_sum.PowerSumQuackU32.well_formed.Reads as well-formed
 use Rattle.power_sum32.proofs.power_sum.PowerSumQuackU32.insert.Reads as insert
 use Rattle.power_sum32.proofs.power_sum.PowerSumQuackU32.remove.Reads as remove
-use Rattle.power_sum32.proofs.power_sum.PowerSumQuackU32.sub_assign.Reads as sub-assign
-use Rattle.power_sum32.proofs.power_sum.PowerSumQuackU32.sub.Reads as sub
 
 pub new-determined : (threshold : ℕ) → Determines (λ r. new.Post tt (threshold, tt) r (threshold, tt))
 new-determined threshold = by-equation _
@@ -35,9 +33,3 @@ insert-determined s c = by-equation _
 
 pub remove-determined : (s : PowerSumQuackU32) (c : Code) → Determines (λ r. remove.Post tt (s, (c, tt)) r (s, (c, tt)))
 remove-determined s c = by-equation _
-
-pub sub-assign-determined : (s : PowerSumQuackU32) (o : PowerSumQuackU32) → Determines (λ r. sub-assign.Post tt (s, (o, tt)) r (s, (o, tt)))
-sub-assign-determined s o = by-equation _
-
-pub sub-determined : (s : PowerSumQuackU32) (o : PowerSumQuackU32) → Determines (λ r. sub.Post tt (s, (o, tt)) r (s, (o, tt)))
-sub-determined s o = by-equation _

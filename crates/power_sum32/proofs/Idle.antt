@@ -17,12 +17,10 @@ use Rattle.rules.specs.Sketch.{fresh, each, wellFormed}
 use Rattle.rules.specs.Calls as calls
 use Rattle.power_sum32.specs.declared.power_sum.PowerSumQuackU32.{PowerSumQuackU32}
 use Rattle.power_sum32.specs.declared.power_sum.Answer.{Answer}
-use Rattle.power_sum32.specs.Answers.{built, answered, newOf, insertOf, removeOf, subAssignOf, subOf}
+use Rattle.power_sum32.specs.Answers.{built, answered, newOf, insertOf, removeOf}
 use Rattle.power_sum32.proofs.power_sum.PowerSumQuackU32.new.Reads as new
 use Rattle.power_sum32.proofs.power_sum.PowerSumQuackU32.insert.Reads as insert
 use Rattle.power_sum32.proofs.power_sum.PowerSumQuackU32.remove.Reads as remove
-use Rattle.power_sum32.proofs.power_sum.PowerSumQuackU32.sub_assign.Reads as sub-assign
-use Rattle.power_sum32.proofs.power_sum.PowerSumQuackU32.sub.Reads as sub
 
 -- The code of a number.
 unfoldable pub code : ℕ → Code
@@ -48,14 +46,6 @@ insert-refusing-falls s n p = let e : suc n ≡ 0 = ap (λ (a : Answer). a .refu
 pub remove-refusing-falls : (s : PowerSumQuackU32) (n : ℕ) → remove.Post tt (none, (code 10, tt)) (answered (suc n) s) (none, (code 10, tt)) → ⊥
 unfolding none both code sketch.insert fresh each every wellFormed removeOf calls.remove sketch.remove
 remove-refusing-falls s n p = let e : suc n ≡ 0 = ap (λ (a : Answer). a .refusal) p in omega arith
-
-pub sub-assign-refusing-falls : (s : PowerSumQuackU32) (n : ℕ) → sub-assign.Post tt (both, (none, tt)) (answered (suc n) s) (both, (none, tt)) → ⊥
-unfolding none both code sketch.insert fresh each every wellFormed subAssignOf calls.subAssign sketch.subtract
-sub-assign-refusing-falls s n p = let e : suc n ≡ 0 = ap (λ (a : Answer). a .refusal) p in omega arith
-
-pub sub-refusing-falls : (s : PowerSumQuackU32) (n : ℕ) → sub.Post tt (both, (none, tt)) (answered (suc n) s) (both, (none, tt)) → ⊥
-unfolding none both code sketch.insert fresh each every wellFormed subOf calls.sub sketch.subtract
-sub-refusing-falls s n p = let e : suc n ≡ 0 = ap (λ (a : Answer). a .refusal) p in omega arith
 
 -- ---- an insertion that does nothing, and one that works only for the first code
 

@@ -15,7 +15,7 @@ use Rattle.rules.specs.Calls as calls
 use Rattle.power_sum32.specs.declared.power_sum.Answer.{Answer}
 use Rattle.power_sum32.specs.declared.power_sum.Last.{Last}
 use Rattle.power_sum32.specs.declared.power_sum.Last.the-variants.{Nothing, Code}
-use Rattle.power_sum32.specs.Answers.{built, answered, newOf, insertOf, removeOf, subAssignOf, subOf}
+use Rattle.power_sum32.specs.Answers.{built, answered, newOf, insertOf, removeOf}
 use Rattle.power_sum32.proofs.Idle as idle
 use Rattle.power_sum32.proofs.Idle.{none, both}
 use Rattle.power_sum32.proofs.power_sum.PowerSumQuackU32.new.Reads as new
@@ -25,15 +25,10 @@ use Rattle.power_sum32.proofs.power_sum.PowerSumQuackU32.last_value.Rea
 use Rattle.power_sum32.proofs.power_sum.PowerSumQuackU32.well_formed.Reads as well-formed
 use Rattle.power_sum32.proofs.power_sum.PowerSumQuackU32.insert.Reads as insert
 use Rattle.power_sum32.proofs.power_sum.PowerSumQuackU32.remove.Reads as remove
-use Rattle.power_sum32.proofs.power_sum.PowerSumQuackU32.sub_assign.Reads as sub-assign
-use Rattle.power_sum32.proofs.power_sum.PowerSumQuackU32.sub.Reads as sub
 
--- What is read off an answer: its refusal, its sketch's threshold, count and first sum.
+-- What is read off an answer: its refusal, its sketch's count and first sum.
 refusal : Answer → ℕ
 refusal a = a .refusal
-
-threshold-of : Answer → ℕ
-threshold-of a = a .sketch .threshold
 
 count-of : Answer → ℕ
 count-of a = a .sketch .count
@@ -83,16 +78,6 @@ insert-wrong = (λ p. let e : _≡_ {A = ℕ} 12 10 = ap first-sum p in omega ar
 pub remove-wrong : (remove.Post tt (both, (idle.code 10, tt)) (answered 0 both) (both, (idle.code 10, tt)) → ⊥) × (remove.Post tt (both, (idle.code 10, tt)) (answered 0 (built (sketch.remove kind32 (sketch.insert kind32 (sketch.insert kind32 (fresh 3) 10) 12) 12))) (both, (idle.code 10, tt)) → ⊥)
 unfolding idle.code first-sum count-of none both fresh each every wellFormed sketch.insert sketch.remove removeOf calls.remove
 remove-wrong = (λ p. let e : _≡_ {A = ℕ} 2 1 = ap count-of p in omega arith, λ p. let e : _≡_ {A = ℕ} 10 12 = ap first-sum p in omega arith)
-
--- Thresholds that differ are not refused, or refused by 3.
-pub sub-assign-wrong : (sub-assign.Post tt (both, (built (fresh 2), tt)) (answered 0 both) (both, (built (fresh 2), tt)) → ⊥) × (sub-assign.Post tt (both, (built (fresh 2), tt)) (answered 3 both) (both, (built (fresh 2), tt)) → ⊥)
-unfolding refusal none both fresh each every wellFormed sketch.insert sketch.subtract subAssignOf calls.subAssign
-sub-assign-wrong = (λ p. let e : _≡_ {A = ℕ} 0 2 = ap refusal p in omega arith, λ p. let e : _≡_ {A = ℕ} 3 2 = ap refusal p in omega arith)
-
--- Thresholds that differ are refused, or the greater is kept.
-pub sub-wrong : (sub.Post tt (both, (built (fresh 2), tt)) (answered 2 both) (both, (built (fresh 2), tt)) → ⊥) × (sub.Post tt (both, (built (fresh 2), tt)) (answered 0 both) (both, (built (fresh 2), tt)) → ⊥)
-unfolding refusal threshold-of none both fresh each every wellFormed sketch.insert sketch.subtract subOf calls.sub
-sub-wrong = (λ p. let e : _≡_ {A = ℕ} 2 0 = ap refusal p in omega arith, λ p. let e : _≡_ {A = ℕ} 3 2 = ap threshold-of p in omega arith)
 
 -- An ill-formed sketch is said to be well formed.
 pub ill-formed-wrong : well-formed.Post tt (built (fresh 0), tt) true (built (fresh 0), tt) → ⊥

@@ -1,7 +1,7 @@
 -- The structs of the sketch beside the rules: what a struct stands for, and what each call answers. Definitions only.
 -- Assumes nothing.
 use Prim.Native.Nat.{ℕ}
-use mathlib.Core.Bool.{Bool, _&&_}
+use mathlib.Core.Bool.{Bool}
 use mathlib.Core.List.{List, [], map}
 use lib.ListN.{take}
 use Rattle.modint32.specs.declared.Code.{Code}
@@ -68,9 +68,3 @@ insertOf s c = sketchAnswer s (calls.insert kind32 (wellFormedOf s) (view s) (c 
 
 unfoldable pub removeOf : PowerSumQuackU32 → Code → Answer
 removeOf s c = sketchAnswer s (calls.remove kind32 (wellFormedOf s) (view s) (c .0))
-
-unfoldable pub subAssignOf : PowerSumQuackU32 → PowerSumQuackU32 → Answer
-subAssignOf s o = sketchAnswer s (calls.subAssign kind32 (wellFormedOf s && wellFormedOf o) (view s) (view o))
-
-unfoldable pub subOf : PowerSumQuackU32 → PowerSumQuackU32 → Answer
-subOf s o = sketchAnswer s (calls.sub kind32 (wellFormedOf s && wellFormedOf o) (view s) (view o))

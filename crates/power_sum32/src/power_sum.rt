@@ -1,11 +1,10 @@
 // The sketch and its calls, by value.
 ghost use mathlib.Core.Path.{_≡_};
-ghost use mathlib.Core.Bool.{true, cond, _&&_};
-ghost use Prim.Native.Nat.{_<_, min};
+ghost use mathlib.Core.Bool.{true, cond};
 ghost use Rattle.rules.specs.Kind.{kind32};
-ghost use Rattle.rules.specs.Sketch.{placeFits, lastFits, inRange, lastWithout, insert, remove, subtract};
+ghost use Rattle.rules.specs.Sketch.{placeFits, lastFits, inRange, lastWithout, insert, remove};
 ghost use Rattle.rules.specs.Calls.{written};
-ghost use Rattle.power_sum32.specs.Answers.{view, built, lastOf, lastTo, wellFormedOf, answered, newOf, insertOf, removeOf, subAssignOf, subOf};
+ghost use Rattle.power_sum32.specs.Answers.{view, built, lastOf, lastTo, wellFormedOf, answered, newOf, insertOf, removeOf};
 use modint32::Code;
 use modint32::Residue;
 
@@ -76,12 +75,6 @@ fn last_without(last: Last, code: Code) -> Last
             Last::Code(x)
         },
     }
-}
-
-fn smaller(a: usize, b: usize) -> usize
-    ensures { λ r. ⌜ r ≡ min a b ⌝ }
-{
-    if a < b { a } else { b }
 }
 
 fn answer_with(refusal: u32, sketch: PowerSumQuackU32) -> Answer
@@ -242,64 +235,6 @@ impl PowerSumQuackU32 {
     {
         if self.well_formed() {
             answer_with(0, self.removed(code))
-        } else {
-            answer_with(12, self)
-        }
-    }
-
-    fn both_well_formed(self, rhs: PowerSumQuackU32) -> bool
-        ensures { λ r. ⌜ r ≡ (wellFormedOf self && wellFormedOf rhs) ⌝ }
-    {
-        if self.well_formed() {
-            rhs.well_formed()
-        } else {
-            false
-        }
-    }
-
-    // The core of both subtractions, at the smaller threshold.
-    fn subtracted(self, rhs: PowerSumQuackU32, threshold: usize) -> PowerSumQuackU32
-        requires { ⌜ ((wellFormedOf self && wellFormedOf rhs) ≡ true) × (threshold ≡ min (self .threshold) (rhs .threshold)) ⌝ }
-        ensures { λ r. ⌜ r ≡ built (subtract kind32 (view self) (view rhs)) ⌝ }
-    {
-        let left = self.sums;
-        let right = rhs.sums;
-        let mut sums = [Residue::zero(); 32];
-        for k in 0..threshold {
-            let a = left[k];
-            let b = right[k];
-            sums[k] = a.sub(b);
-        }
-        let count = std::num::wrapping_sub_u32(self.count, rhs.count);
-        PowerSumQuackU32 {
-            threshold,
-            sums,
-            count,
-            last: Last::Nothing,
-        }
-    }
-
-    pub fn sub_assign(self, rhs: PowerSumQuackU32) -> Answer
-        ensures { λ r. ⌜ r ≡ subAssignOf self rhs ⌝ }
-    {
-        if self.both_well_formed(rhs) {
-            let threshold = self.threshold;
-            if threshold == rhs.threshold {
-                answer_with(0, self.subtracted(rhs, threshold))
-            } else {
-                answer_with(2, self)
-            }
-        } else {
-            answer_with(12, self)
-        }
-    }
-
-    pub fn sub(self, rhs: PowerSumQuackU32) -> Answer
-        ensures { λ r. ⌜ r ≡ subOf self rhs ⌝ }
-    {
-        if self.both_well_formed(rhs) {
-            let threshold = smaller(self.threshold, rhs.threshold);
-            answer_with(0, self.subtracted(rhs, threshold))
         } else {
             answer_with(12, self)
         }

@@ -29,19 +29,21 @@ use Rattle.rules.proofs.Promise as promise
 use Rattle.power_sum32.specs.declared.power_sum.PowerSumQuackU32.{PowerSumQuackU32}
 use Rattle.power_sum32.specs.declared.power_sum.Answer.{Answer}
 use Rattle.power_sum32.specs.declared.power_sum.Number.{Number}
-use Rattle.power_sum32.specs.Answers.{view, built, wellFormedOf, empty, answered, sketchAnswer, numbered, newOf, insertOf, removeOf, subAssignOf, subOf}
+use Rattle.power_sum32.specs.Answers.{view, built, wellFormedOf, empty, answered, sketchAnswer, numbered, newOf, insertOf, removeOf}
+use Rattle.subtract32.specs.Answers.{subAssignOf, subOf}
 use Rattle.decoder32.specs.Answers.{decodeOf}
 use Rattle.packet_writer32.specs.Answers.{writeOf, writeWithHintOf}
 use Rattle.packet_reader32.specs.Answers.{readOf}
-use Rattle.power_sum32.proofs.Chain.{view-built, built-well-formed, new-chain, insert-chain, remove-chain, sub-assign-chain, sub-chain}
+use Rattle.power_sum32.proofs.Chain.{view-built, built-well-formed, new-chain, insert-chain, remove-chain}
+use Rattle.subtract32.proofs.Chain.{sub-assign-chain, sub-chain}
 use Rattle.decoder32.proofs.Chain.{decode-chain}
 use Rattle.packet_writer32.proofs.Chain.{write-chain, write-with-hint-chain}
 use Rattle.packet_reader32.proofs.Chain.{read-chain}
 use Rattle.power_sum32.proofs.power_sum.PowerSumQuackU32.new.Reads as new
 use Rattle.power_sum32.proofs.power_sum.PowerSumQuackU32.insert.Reads as insert
 use Rattle.power_sum32.proofs.power_sum.PowerSumQuackU32.remove.Reads as remove
-use Rattle.power_sum32.proofs.power_sum.PowerSumQuackU32.sub_assign.Reads as sub-assign
-use Rattle.power_sum32.proofs.power_sum.PowerSumQuackU32.sub.Reads as sub
+use Rattle.subtract32.proofs.sub_assign.Reads as sub-assign
+use Rattle.subtract32.proofs.sub.Reads as sub
 use Rattle.decoder32.proofs.decode_with_log.Reads as decode-with-log
 use Rattle.packet_writer32.proofs.serialize.Reads as serialize
 use Rattle.packet_writer32.proofs.serialize_with_hint.Reads as serialize-with-hint

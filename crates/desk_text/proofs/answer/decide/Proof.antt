@@ -6,7 +6,7 @@ use lib.ListN.{take, replicate}
 use lib.Seq.{length-take-le}
 use borrow.Author.Needs.{needs}
 use Rattle.rules.specs.Desk.{mostLines}
-use Rattle.power_sum32.proofs.power_sum.PowerSumQuackU32.sub_assign.Reads as sub-assign
+use Rattle.subtract32.proofs.sub_assign.Reads as sub-assign
 use Rattle.decoder32.proofs.decode_with_log.Reads as decode-with-log
 use Rattle.desk_text.proofs.Decision.{Listed, listed-given, listed-few, listed-within, listed-taken, subtraction-refused, decoding-refused, decoding-listed}
 use Rattle.desk_text.proofs.writer.write_refused.Reads as write-refused

@@ -2,7 +2,7 @@
 -- Assumes nothing.
 use mathlib.Core.Path.{_≡_, _∙_}
 use borrow.Author.Needs.{needs}
-use Rattle.power_sum32.specs.Answers.{subAssignOf}
+use Rattle.subtract32.specs.Answers.{subAssignOf}
 use Rattle.exports32.specs.Structs.{structIn}
 use Rattle.exports32.proofs.Outcomes.{sub-assign-in, sub-assign-own, kept}
 use Rattle.exports32.proofs.power_sum.eddy32_sub_assign.Statement.{statement}

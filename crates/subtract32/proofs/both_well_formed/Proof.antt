@@ -1,7 +1,7 @@
 -- Both tests pass, or one of them fails.
 -- Assumes nothing.
-use Rattle.power_sum32.proofs.power_sum.PowerSumQuackU32.both_well_formed.Statement.{statement}
-use Rattle.power_sum32.proofs.power_sum.PowerSumQuackU32.both_well_formed.Tie as tie
+use Rattle.subtract32.proofs.both_well_formed.Statement.{statement}
+use Rattle.subtract32.proofs.both_well_formed.Tie as tie
 
 returns : tie.Need-returns
 returns c = rw (← c .before .before .well-formed .ensures, c .before .if1 .taken, c .well-formed2 .ensures)

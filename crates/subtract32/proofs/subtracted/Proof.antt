@@ -17,19 +17,19 @@ use Rattle.rules.proofs.Field.{count-down}
 use Rattle.rules.proofs.Each.{and-first}
 use Rattle.rules.proofs.WellFormed.{threshold-in-range}
 use Rattle.rules.proofs.Sums.{Changing, changing-start, changing-turn, changing-done, differences, drop-replicate}
 use Rattle.power_sum32.specs.declared.power_sum.PowerSumQuackU32.{PowerSumQuackU32}
 use Rattle.power_sum32.specs.Answers.{lastOf, wellFormedOf}
-use Rattle.power_sum32.proofs.power_sum.PowerSumQuackU32.subtracted.Statement.{statement}
-use Rattle.power_sum32.proofs.power_sum.PowerSumQuackU32.subtracted.Tie as tie
+use Rattle.subtract32.proofs.subtracted.Statement.{statement}
+use Rattle.subtract32.proofs.subtracted.Tie as tie
 
 abbrev at : List Residue → List Residue → ℕ → ℕ → ℕ
 at a b k x = minus kind32 (val (getD a k (wrap 0))) (val (getD b k (wrap 0)))
 
 abbrev Inv-loop : tie.InvT-loop
-Inv-loop self rhs threshold left right sums₀ k₀ sums k = Changing val (at left right) 0 32 threshold sums₀ sums k × (length left ≡ 32) × (length right ≡ 32)
+Inv-loop s rhs threshold left right sums₀ k₀ sums k = Changing val (at left right) 0 32 threshold sums₀ sums k × (length left ≡ 32) × (length right ≡ 32)
 
 abbrev μ-loop : tie.MeasureT-loop
-μ-loop self rhs threshold left right sums₀ k₀ sums k = threshold - k
+μ-loop s rhs threshold left right sums₀ k₀ sums k = threshold - k
 
 reach : (s o : PowerSumQuackU32) → wellFormedOf s && wellFormedOf o ≡ true → s .threshold ≤ 32
 reach s o w = threshold-in-range kind32 (s .threshold) (map val (s .sums)) (lastOf (s .last)) (and-first (wellFormedOf s) (wellFormedOf o) w) .1
@@ -37,7 +37,7 @@ reach s o w = threshold-in-range kind32 (s .threshold) (map val (s .sums)) (last
 loop-holds : tie.Need-loop-holds Inv-loop μ-loop
 loop-holds c =
     let s = c .before .before .before in
-    let h = reach (s .args .self) (s .args .rhs) (s .pre .0) in
+    let h = reach (s .args .s) (s .args .rhs) (s .pre .0) in
     (changing-start (omega (arith, s .pre .1)) refl, simp length-map at (s .good .0 .1 .1 .1 .0 .1 .0 .1), simp length-map at (s .good .1 .0 .1 .1 .1 .0 .1 .0 .1))
 
 loop-again : tie.Need-loop-again Inv-loop μ-loop
@@ -50,7 +50,7 @@ unfolding subtract
 returns c =
     let k = c .before .before in
     let s = k .before .before .before .before in
-    let self = s .args .self in
+    let self = s .args .s in
     let rhs = s .args .rhs in
     let t = s .args .threshold in
     let h = reach self rhs (s .pre .0) in

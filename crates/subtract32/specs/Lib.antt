@@ -1,0 +1,2 @@
+-- The answers of both subtractions beside the rules.
+pub mod Answers
