@@ -4,7 +4,7 @@
 //!
 //! Each work is run by turns on both sides, RUNS times each (31 unless said otherwise), after one run that is not
 //! counted. Both sides answer a sum over all that they computed, and the sums must agree. Shown are the least and the
-//! median time of a call and the Rust's time divided by ours: above 1 is faster than the Rust.
+//! median time of a call and our time divided by the Rust's: above 1 is slower than the Rust.
 //!
 //! The verified side is called through its C boundary, as words: each call tests that the sketch is well formed, and
 //! writes into buffers that are lent and not cleared between calls. The Rust makes a new list for coefficients,
@@ -312,8 +312,8 @@ fn measure(mut work: Work, runs: usize) -> bool {
         rust.median,
         ours.least,
         ours.median,
-        rust.least / ours.least,
-        rust.median / ours.median,
+        ours.least / rust.least,
+        ours.median / rust.median,
         if agreed { "" } else { "   the sides differ" }
     );
     agreed
@@ -326,7 +326,7 @@ fn main() {
     quack::global_config_set_max_power_sum_threshold(32);
     let kinds: [fn(usize, u64) -> Work; 8] = [insert, remove, sub_assign, sub, coefficients, decode, write, read];
     println!(
-        "ns a call on {}, {runs} runs, seed {seed}; a ratio above 1 is faster than the Rust",
+        "ns a call on {}, {runs} runs, seed {seed}; a ratio above 1 is slower than the Rust",
         std::env::consts::ARCH
     );
     println!(
