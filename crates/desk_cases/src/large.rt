@@ -6,18 +6,15 @@ use crate::tally;
 use crate::tally::Tally;
 
 // Puts bytes behind the first `at` of a buffer, where there is room for them. Answers where they end.
-fn push(out: &mut [u8], at: usize, bytes: &[u8]) -> usize
+fn push(out: &mut [u8], at: usize, added: &[u8]) -> usize
     requires { ⌜ at ≤ length (now out) ⌝ }
     ensures { λ r. ⌜ Counts r (now (out .exit)) ⌝ }
 {
-    if bytes.len() > out.len() - at {
+    if added.len() > out.len() - at {
         return at;
     }
-    for i in 0..bytes.len() {
-        let k = at + i;
-        out[k] = bytes[i];
-    }
-    at + bytes.len()
+    bytes::copy(added, &mut out[at..]);
+    at + added.len()
 }
 
 fn push_line(out: &mut [u8], at: usize, word: &[u8], n: u32) -> usize
@@ -31,37 +28,42 @@ fn push_line(out: &mut [u8], at: usize, word: &[u8], n: u32) -> usize
     push(out, end, b"\n")
 }
 
-// Lines of a word with the numbers from `from` up to `to`, which is left out.
-fn push_range(out: &mut [u8], at: usize, word: &[u8], from: u32, to: u32) -> usize
+// `many` lines of a word, the first with the number `from`, and each next with one that is greater by `step`.
+fn push_lines(out: &mut [u8], at: usize, word: &[u8], from: u32, step: u32, many: u32) -> usize
     requires { ⌜ at ≤ length (now out) ⌝ }
     ensures { λ r. ⌜ Counts r (now (out .exit)) ⌝ }
 {
     let mut end = at;
-    for n in from..to {
+    let mut n = from;
+    for _i in 0..many {
         end = push_line(&mut *out, end, word, n);
+        n = std::num::wrapping_add_u32(n, step);
     }
     end
 }
 
-// `many` lines of a word with one number.
-fn push_same(out: &mut [u8], at: usize, word: &[u8], n: u32, many: u32) -> usize
-    requires { ⌜ at ≤ length (now out) ⌝ }
+// The threshold 32, and `many` log lines with the numbers from `from` on.
+fn push_logs(out: &mut [u8], from: u32, many: u32) -> usize
     ensures { λ r. ⌜ Counts r (now (out .exit)) ⌝ }
 {
-    let mut end = at;
-    for _i in 0..many {
-        end = push_line(&mut *out, end, word, n);
-    }
-    end
+    let end = push(&mut *out, 0, b"threshold=32\n");
+    push_lines(out, end, b"log=", from, 1, many)
+}
+
+// An input to which `head` and then missing lines should be written.
+fn listing(t: Tally, input: &[u8], head: &[u8], from: u32, step: u32, many: u32) -> Tally {
+    let mut expected = tally::buffer();
+    let a = push(&mut expected, 0, head);
+    let end = push_lines(&mut expected, a, b"missing=", from, step, many);
+    t.case(input, &expected[..end])
 }
 
 // As many log lines as there may be, all but one of them got.
 pub(crate) fn all_but_one(t: Tally) -> Tally {
     let mut input = tally::buffer();
-    let a = push(&mut input, 0, b"threshold=32\n");
-    let b = push_range(&mut input, a, b"log=", 0, 8192);
-    let c = push_range(&mut input, b, b"got=", 0, 5000);
-    let end = push_range(&mut input, c, b"got=", 5001, 8192);
+    let a = push_logs(&mut input, 0, 8192);
+    let b = push_lines(&mut input, a, b"got=", 0, 1, 5000);
+    let end = push_lines(&mut input, b, b"got=", 5001, 1, 3191);
     t.case(
         &input[..end],
         b"refusal=0\nthreshold=32\ncount=1\nfound=1\nmissing=5000\n",
@@ -72,66 +74,53 @@ pub(crate) fn all_but_one(t: Tally) -> Tally {
 pub(crate) fn all_the_same(t: Tally) -> Tally {
     let mut input = tally::buffer();
     let a = push(&mut input, 0, b"threshold=1\n");
-    let b = push_same(&mut input, a, b"log=", 4294967295, 8192);
-    let end = push_same(&mut input, b, b"got=", 4294967295, 8191);
-    let mut expected = tally::buffer();
-    let head = push(
-        &mut expected,
-        0,
-        b"refusal=0\nthreshold=1\ncount=1\nfound=8192\n",
-    );
-    let last = push_same(&mut expected, head, b"missing=", 4294967295, 8192);
-    t.case(&input[..end], &expected[..last])
+    let b = push_lines(&mut input, a, b"log=", 4294967295, 0, 8192);
+    let end = push_lines(&mut input, b, b"got=", 4294967295, 0, 8191);
+    let head = b"refusal=0\nthreshold=1\ncount=1\nfound=8192\n";
+    listing(t, &input[..end], head, 4294967295, 0, 8192)
 }
 
 // As many missing as the greatest threshold allows.
 pub(crate) fn all_missing(t: Tally) -> Tally {
     let mut input = tally::buffer();
-    let a = push(&mut input, 0, b"threshold=32\n");
-    let b = push_range(&mut input, a, b"log=", 1, 41);
-    let end = push_range(&mut input, b, b"got=", 1, 9);
-    let mut expected = tally::buffer();
-    let head = push(
-        &mut expected,
-        0,
-        b"refusal=0\nthreshold=32\ncount=32\nfound=32\n",
-    );
-    let last = push_range(&mut expected, head, b"missing=", 9, 41);
-    t.case(&input[..end], &expected[..last])
+    let a = push_logs(&mut input, 1, 40);
+    let end = push_lines(&mut input, a, b"got=", 1, 1, 8);
+    let head = b"refusal=0\nthreshold=32\ncount=32\nfound=32\n";
+    listing(t, &input[..end], head, 9, 1, 32)
 }
 
 // One more than that.
 pub(crate) fn one_too_many_missing(t: Tally) -> Tally {
     let mut input = tally::buffer();
-    let a = push(&mut input, 0, b"threshold=32\n");
-    let end = push_range(&mut input, a, b"log=", 1, 34);
+    let end = push_logs(&mut input, 1, 33);
     t.case(&input[..end], b"refusal=4\n")
 }
 
 // Log line 8,193, and then some other bytes.
 fn after_the_last(t: Tally, bytes: &[u8], expected: &[u8]) -> Tally {
     let mut input = tally::buffer();
-    let a = push(&mut input, 0, b"threshold=32\n");
-    let b = push_range(&mut input, a, b"log=", 0, 8192);
-    let end = push(&mut input, b, bytes);
+    let a = push_logs(&mut input, 0, 8192);
+    let end = push(&mut input, a, bytes);
     t.case(&input[..end], expected)
 }
 
 // What may stand behind log line 8,192: no further log line, and on one line 9 comes before 10.
 pub(crate) fn one_line_too_many(t: Tally) -> Tally {
+    let bad: &[u8] = b"refusal=9\n";
+    let too_many: &[u8] = b"refusal=10\n";
     let t = after_the_last(t, b"", b"refusal=4\n");
-    let t = after_the_last(t, b"log=8192\n", b"refusal=10\n");
-    let t = after_the_last(t, b"log=08192\n", b"refusal=9\n");
-    let t = after_the_last(t, b"log=8192\nlog=x\n", b"refusal=10\n");
-    let t = after_the_last(t, b"log=8192", b"refusal=9\n");
-    after_the_last(t, b"got=1\nlog=8192\n", b"refusal=9\n")
+    let t = after_the_last(t, b"log=8192\n", too_many);
+    let t = after_the_last(t, b"log=08192\n", bad);
+    let t = after_the_last(t, b"log=8192\nlog=x\n", too_many);
+    let t = after_the_last(t, b"log=8192", bad);
+    after_the_last(t, b"got=1\nlog=8192\n", bad)
 }
 
 // Got lines have no limit.
 pub(crate) fn many_got(t: Tally) -> Tally {
     let mut input = tally::buffer();
-    let a = push(&mut input, 0, b"threshold=32\nlog=5\nlog=6\n");
-    let end = push_same(&mut input, a, b"got=", 5, 10000);
+    let a = push_logs(&mut input, 5, 2);
+    let end = push_lines(&mut input, a, b"got=", 5, 0, 10000);
     t.case(&input[..end], b"refusal=4\n")
 }
 
@@ -142,6 +131,7 @@ pub(crate) fn long_lines(t: Tally) -> Tally {
     number[3999] = b'\n';
     let mut word = [b't'; 4000];
     word[3999] = b'\n';
-    let t = t.case(&number, b"refusal=9\n");
-    t.case(&word, b"refusal=9\n")
+    let bad: &[u8] = b"refusal=9\n";
+    let t = t.case(&number, bad);
+    t.case(&word, bad)
 }

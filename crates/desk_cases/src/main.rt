@@ -1,23 +1,11 @@
-// Inputs of the desk program, good and bad, each fed at once and in pieces of 1, of 7 and of all bytes, and held to what should be written.
+// Inputs of the desk program, good and bad, listed on standard input or built here. Each is fed at once and in pieces of
+// 1, of 7 and of all bytes, and what is written is held to what should be.
 mod large;
-mod small;
+mod listed;
 mod tally;
 
 use crate::tally::Tally;
 use libc::STDOUT_FILENO;
-
-fn small_inputs(t: Tally) -> Tally {
-    let t = small::lists(t);
-    let t = small::codes(t);
-    let t = small::counts(t);
-    let t = small::thresholds(t);
-    let t = small::ends(t);
-    let t = small::numbers(t);
-    let t = small::large_numbers(t);
-    let t = small::spaces(t);
-    let t = small::keys(t);
-    small::order(t)
-}
 
 fn large_inputs(t: Tally) -> Tally {
     let t = large::all_but_one(t);
@@ -30,7 +18,7 @@ fn large_inputs(t: Tally) -> Tally {
 }
 
 fn main() {
-    let t = large_inputs(small_inputs(Tally::new()));
+    let t = large_inputs(listed::inputs(Tally::new()));
     io::print_decimal(STDOUT_FILENO, t.inputs as u64);
     io::write_all(STDOUT_FILENO, b" inputs, ");
     io::print_decimal(STDOUT_FILENO, t.differences as u64);

@@ -1,6 +1,6 @@
 // One input fed in pieces of several sizes, and what is written held to what is expected.
 ghost use mathlib.Core.Path.{_≡_};
-ghost use Prim.Native.Nat.{min};
+ghost use Prim.Native.Nat.{_<_, min};
 ghost use lib.ListN.{length};
 use desk_text::answer;
 
@@ -10,7 +10,7 @@ pub struct Tally {
     pub differences: u32,
 }
 
-// Zeros, with room for every input and every answer here.
+// Zeros, with room for the list, every input and every answer here.
 pub(crate) fn buffer() -> [u8; 262144]
     ensures { λ r. ⌜ 262144 ≡ length r ⌝ }
 {
@@ -23,28 +23,21 @@ fn smaller(a: usize, b: usize) -> usize
     if a < b { a } else { b }
 }
 
-// The input in pieces of `size` bytes, of which there is at least one.
-fn in_pieces(input: &[u8], expected: &[u8], size: usize) -> bool {
-    if size == 0 {
-        return false;
-    }
+// The input in pieces of `size` bytes.
+fn in_pieces(input: &[u8], expected: &[u8], size: usize) -> bool
+    requires { ⌜ 0 < size ⌝ }
+{
     let mut log = [0u32; 8192];
     let mut reading = desk_reader::start();
     let mut at: usize = 0;
     while at < input.len() {
         let end = at + smaller(size, input.len() - at);
         let fed = desk_reader::feed(reading, &mut log, &input[at..end]);
-        if fed.refusal > 0 {
-            return false;
-        }
         reading = fed.reading;
         at = end;
     }
     let mut out = buffer();
     let written = answer::finish(reading, &log, &mut out);
-    if written.refusal > 0 {
-        return false;
-    }
     let n = written.value;
     check::same(&out[..n], expected)
 }
@@ -53,9 +46,6 @@ fn in_pieces(input: &[u8], expected: &[u8], size: usize) -> bool {
 fn at_once(input: &[u8], expected: &[u8]) -> bool {
     let mut out = buffer();
     let written = answer::answer(input, &mut out);
-    if written.refusal > 0 {
-        return false;
-    }
     let n = written.value;
     check::same(&out[..n], expected)
 }
@@ -99,11 +89,5 @@ impl Tally {
 
     pub(crate) fn case(self, input: &[u8], expected: &[u8]) -> Tally {
         self.with(agrees(input, expected))
-    }
-
-    // An input that is refused by a number of one digit.
-    pub(crate) fn refused(self, input: &[u8], digit: u8) -> Tally {
-        let expected = [b'r', b'e', b'f', b'u', b's', b'a', b'l', b'=', digit, b'\n'];
-        self.case(input, &expected)
     }
 }

@@ -19,7 +19,6 @@ in-pieces-spec =
     (tie.spec
     Inv-loop
     μ-loop
-    (λ c. search needs)
     (λ c κs. tt)
     (λ c. search needs)
     (λ c. search needs)
@@ -32,12 +31,10 @@ in-pieces-spec =
     (λ c κs. tt)
     (λ c. search needs)
     (λ c. search needs)
-    (λ c. search needs)
     (λ c κs. tt)
     (λ c. search needs)
     (λ c. search needs)
     (λ c κs. tt)
-    (λ c. search needs)
     (λ c. search needs)
     (λ c. search needs)
     (λ c κs. tt)
