@@ -161,15 +161,16 @@ module _ (K : Kind) where
 abbrev Gives : String → String → Type 0
 Gives input output = deskAnswer kind32 (bytesOf input) ≡ bytesOf output
 
--- The page's example; the threshold 0, with LF and without; an empty input; more lacking than the threshold allows; repeats in the log; a bad
--- line before another; and a number above the greatest code.
+-- The page's example; the threshold 0, with LF and without; an empty input; more lacking than the threshold allows; piece 2 before piece 10; repeats
+-- in the log; a bad line before another; and a number above the greatest code.
 pub examples : Gives "threshold=3\nlog=1\nlog=2\nlog=10\ngot=1\ngot=10\n" "refusal=0\nthreshold=3\ncount=1\nfound=1\nmissing=2\n"
     × Gives "threshold=0\n" "refusal=1\n"
     × Gives "threshold=0" "refusal=9\n"
     × Gives "" "refusal=9\n"
     × Gives "threshold=1\nlog=7\nlog=9\n" "refusal=4\n"
+    × Gives "threshold=2\nlog=2\nlog=10\n" "refusal=0\nthreshold=2\ncount=2\nfound=2\nmissing=2\nmissing=10\n"
     × Gives "threshold=2\nlog=9\nlog=7\nlog=9\ngot=7\n" "refusal=0\nthreshold=2\ncount=2\nfound=2\nmissing=9\nmissing=9\n"
     × Gives "threshold=1\nlog=01\nthreshold=0\n" "refusal=9\n"
     × Gives "threshold=1\nlog=4294967296\n" "refusal=9\n"
 unfolding deskAnswer printed lines line decimal decimalWithin outcome decided readLines closed next cut inFront parsed keyed number wellBegun allDigits decimalValue calls.decode decoding.decode evaluate coefficients newestFirst subtract insert fresh each powerMod powerWithin
-examples = (refl, refl, refl, refl, refl, refl, refl, refl)
+examples = (refl, refl, refl, refl, refl, refl, refl, refl, refl)
