@@ -1,7 +1,5 @@
 // The value of a polynomial at a code. It is monic: its coefficients are given from the one below the leading 1 down to the constant term.
 ghost use mathlib.Core.Path.{_≡_};
-ghost use mathlib.Core.Bool.{cond};
-ghost use lib.Dec.{ltb};
 ghost use Rattle.modint32.specs.Answers.{wrap};
 ghost use Rattle.rules.specs.Kind.{kind32};
 ghost use Rattle.rules.specs.Decode.{evaluate};
@@ -15,19 +13,15 @@ pub struct Evaluated {
     pub value: Residue,
 }
 
-fn misfit(number: u32) -> usize
-    ensures { λ r. ⌜ r ≡ cond (ltb number (kind32 .modulus)) 0 1 ⌝ }
-{
-    if number < Residue::MODULUS { 0 } else { 1 }
-}
-
 // Whether each number is below the prime. The misfits are counted, so that no turn leaves the loop.
 pub fn all_below(numbers: &[u32]) -> bool
     ensures { λ r. ⌜ r ≡ allBelow (now (numbers .entry)) ⌝ }
 {
     let mut misfits: usize = 0;
     for k in 0..numbers.len() {
-        misfits += misfit(numbers[k]);
+        if numbers[k] >= Residue::MODULUS {
+            misfits += 1;
+        }
     }
     misfits == 0
 }

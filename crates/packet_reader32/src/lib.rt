@@ -35,17 +35,18 @@ fn word_at(part: &[u8], at: usize) -> u32
         + 16777216 * wide(part[at + 3])
 }
 
-// Whether each of the first `n` numbers of a part is below the prime.
+// Whether each of the first `n` numbers of a part is below the prime. The misfits are counted, so that no turn leaves the loop.
 fn sums_fit(part: &[u8], n: usize) -> bool
     requires { ⌜ n * 4 ≤ length (now part) ⌝ }
     ensures { λ r. ⌜ r ≡ every (λ (k s : ℕ). ltb s (kind32 .modulus)) 0 (allNumbers 4 n (now (part .entry))) ⌝ }
 {
+    let mut misfits: usize = 0;
     for k in 0..n {
         if word_at(part, k * 4) >= Residue::MODULUS {
-            return false;
+            misfits += 1;
         }
     }
-    true
+    misfits == 0
 }
 
 // The first `n` numbers of a part, each below the prime, in the places of a sketch.

@@ -82,6 +82,13 @@ module _ {A : Type 0} {val : A → ℕ} {test : ℕ → ℕ → Bool} {l : List 
     whole = rw add-one (one-more (test k (val (getD l k d))) _ m a e ∙ sym (rw (here val l k d u)) ∙ i .whole);
   }
 
+  -- So one that passes leaves the misfits as they were, and one that fails is a misfit more.
+  pub counted-pass : {m k : ℕ} (d : A) → Counted val test l m k → k < length l → test k (val (getD l k d)) ≡ true → Counted val test l m (k + 1)
+  counted-pass d i u t = rw add-zero at (counted-turn d i u 0 (rw t))
+
+  pub counted-fail : {m k : ℕ} (d : A) → Counted val test l m k → k < length l → test k (val (getD l k d)) ≡ false → Counted val test l (m + 1) (k + 1)
+  counted-fail d i u t = counted-turn d i u 1 (rw t)
+
   -- After the last element the whole test passes where there are no misfits.
   pub counted-done : {m k : ℕ} → Counted val test l m k → length l ≤ k → eqb m 0 ≡ every test 0 (map val l)
   unfolding every
