@@ -17,7 +17,7 @@ use modint32::precompute;
 use power_sum32::power_sum::Number;
 use power_sum32::power_sum::PowerSumQuackU32;
 
-// The sum s1 · ai + s2 · a(i-1) + .. + si · a1 modulo the prime, where `coeffs` begins with a1 .. ai.
+// The sum s1 · ai + s2 · a(i-1) + .. + si · a1 modulo the prime, where `coeffs` begins with a1 .. ai. No product waits for the one before it.
 fn newton_sum(sums: [Residue; 32], coeffs: &[u32], i: usize) -> Residue
     requires { ⌜ (i ≤ 32) × (i ≤ length (now coeffs)) ⌝ }
     ensures { λ r. ⌜ r ≡ wrap (sumTo (λ (j : ℕ). getD (map val sums) j 0 * getD (now (coeffs .entry)) (i - j - 1) 0) i % kind32 .modulus) ⌝ }
@@ -26,7 +26,7 @@ fn newton_sum(sums: [Residue; 32], coeffs: &[u32], i: usize) -> Residue
     for j in 0..i {
         let here = sums[j];
         let coeff = Residue::reduce(Code(coeffs[i - j - 1]));
-        sum = here.mul_add(coeff, Code(sum.value()));
+        sum = sum.add(here.mul(coeff));
     }
     sum
 }

@@ -3,7 +3,7 @@
 use Prim.Native.Nat.{ℕ, zero, suc, _+_, _-_, _*_, _%_, _≤_, _<_, zero-le}
 use mathlib.Core.Path.{_≡_, refl, sym, _∙_, ap, ap₂}
 use mathlib.Core.List.{List, _++_, append-assoc, append-nil}
-use native.Mathlib.Nat.{mod-mod, zero-mod, add-comm}
+use native.Mathlib.Nat.{mod-mod, zero-mod}
 use native.Mathlib.Numerals.{add-one}
 use native.Mathlib.Omega.{arith}
 use lib.ListN.{length, getD, take, drop, set, length-append, length-set, drop-of-length-le}
@@ -30,13 +30,12 @@ module _ (K : Kind) {f : ℕ → ℕ} {i : ℕ} where
   sum-start e = record { within = zero-le; value = e ∙ sym (zero-mod (K .modulus)) }
 
   -- One term more: a product whose second factor is reduced.
-  pub sum-turn : {result r j : ℕ} (a b : ℕ) → SumSoFar K f i result j → j < i → f j ≡ a * b → r ≡ plus K (a * residue K b) result → SumSoFar K f i r (j + 1)
+  pub sum-turn : {result r j : ℕ} (a b : ℕ) → SumSoFar K f i result j → j < i → f j ≡ a * b → r ≡ plus K result (times K a (residue K b)) → SumSoFar K f i r (j + 1)
   sum-turn {result} {r} {j} a b s l e u = record {
     within = omega arith;
-    value = rw add-one (u ∙ ap (λ (z : ℕ). z % K .modulus) (add-comm (a * residue K b) result)
-        ∙ add-congruent (K .modulus) result (sumTo f j) (a * residue K b) (f j)
+    value = rw add-one (u ∙ add-congruent (K .modulus) result (sumTo f j) (times K a (residue K b)) (f j)
         (ap (λ (z : ℕ). z % K .modulus) (s .value) ∙ mod-mod (sumTo f j) (K .modulus))
-        (mul-mod-right a b (K .modulus) ∙ ap (λ (z : ℕ). z % K .modulus) (sym e)));
+        (mod-mod (a * residue K b) (K .modulus) ∙ mul-mod-right a b (K .modulus) ∙ ap (λ (z : ℕ). z % K .modulus) (sym e)));
   }
 
   -- With the last term it is the sum.

@@ -27,7 +27,7 @@ loop-again c =
     let j = k .before .loop .j in
     let b : ℕ = getD (a .coeffs .now) (a .i - j - 1) 0 in
     sum-turn kind32 _ b (k .before .loop .inv) (k .loop-test .taken) (ap (λ (s : ℕ). s * b) (List·getD-map val (a .t1) j (wrap 0)))
-    (ap val (c .mul-add .ensures ∙ rw (c .before .before .reduce .ensures, c .before .value .ensures)))
+    (ap val (c .add .ensures ∙ rw (c .before .mul .ensures, c .before .before .reduce .ensures)))
 
 returns : tie.Need-returns Inv-loop μ-loop
 returns c = ap wrap (sum-done kind32 (c .before .loop .inv) (c .loop-test .left))
