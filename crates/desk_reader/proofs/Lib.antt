@@ -3,3 +3,4 @@ pub mod Steps
 pub mod Parse
 pub mod Meaning
 pub mod Promise
+pub mod Determined

@@ -3,3 +3,5 @@ pub mod Stores
 pub mod Decision
 pub mod Meaning
 pub mod Promise
+pub mod Determined
+pub mod Wrong

@@ -1,0 +1,21 @@
+-- Each call of the reader determines its answer, and feeding the log that it leaves: any two outcomes that a contract allows for one input are equal.
+-- Assumes nothing.
+use Prim.Native.Nat.{ℕ}
+use mathlib.Core.Path.{_≡_, _∙_, sym}
+use mathlib.Core.List.{List}
+use contract.Lifetimes.{Lfts}
+use denote.Ref.{RefT, now}
+use Rattle.rules.specs.Determines.{Determines}
+use Rattle.rules.proofs.Determined.{by-equation}
+use Rattle.desk_reader.specs.declared.Reading.{Reading}
+use Rattle.desk_reader.specs.declared.Fed.{Fed}
+use Rattle.desk_reader.proofs.start.Reads as start
+use Rattle.desk_reader.proofs.feed.Reads as feed
+
+pub start-determined : Determines (λ r. start.Post tt tt r tt)
+start-determined = by-equation _
+
+pub feed-determined : (κs : Lfts 2) (r : Reading) (log piece log₁ piece₁ log₂ piece₂ : RefT (List ℕ)) (z₁ z₂ : Fed)
+    → feed.Post κs (r, (log, (piece, tt))) z₁ (r, (log₁, (piece₁, tt))) → feed.Post κs (r, (log, (piece, tt))) z₂ (r, (log₂, (piece₂, tt)))
+    → (z₁ ≡ z₂) × (now log₁ ≡ now log₂)
+feed-determined κs r log piece log₁ piece₁ log₂ piece₂ z₁ z₂ p q = (p .0 ∙ sym (q .0), p .1 ∙ sym (q .1))
