@@ -8,20 +8,14 @@ use lib.ListN.{length}
 use contract.Lifetimes.{Lfts}
 use denote.Ref.{RefT, now}
 use Rattle.numbers.specs.Table.{every}
-use Rattle.rules.specs.Kind.{kind32}
 use Rattle.rules.specs.Sketch as sketch
 use Rattle.rules.specs.Sketch.{fresh, each, wellFormed}
 use Rattle.rules.specs.Calls as calls
 use Rattle.rules.specs.Calls.{refusalOf}
-use Rattle.power_sum32.specs.declared.power_sum.PowerSumQuackU32.{PowerSumQuackU32}
 use Rattle.power_sum32.specs.declared.power_sum.Number.{Number}
-use Rattle.power_sum32.specs.Answers.{built}
+use Rattle.power_sum32.proofs.Idle.{both}
 use Rattle.coefficients32.specs.Answers.{coefficientsOf}
 use Rattle.coefficients32.proofs.to_coeffs.Reads as to-coeffs
-
--- A sketch of threshold 3 with the codes 10 and 12 in it.
-unfoldable pub both : PowerSumQuackU32
-both = built (sketch.insert kind32 (sketch.insert kind32 (fresh 3) 10) 12)
 
 pub to-coeffs-refusing-falls : (κs : Lfts 1) (coeffs coeffs₁ : RefT (List ℕ)) (r : Number) (n : ℕ) → now coeffs ≡ 0 ∷ 0 ∷ [] → r .refusal ≡ suc n
     → to-coeffs.Post κs (both, (coeffs, tt)) r (both, (coeffs₁, tt)) → ⊥

@@ -10,22 +10,16 @@ use contract.Lifetimes.{Lfts}
 use denote.Ref.{RefT, now}
 use Rattle.numbers.specs.Power.{powerWithin, powerMod}
 use Rattle.numbers.specs.Table.{every}
-use Rattle.rules.specs.Kind.{kind32}
 use Rattle.rules.specs.Sketch as sketch
 use Rattle.rules.specs.Sketch.{fresh, each, wellFormed}
 use Rattle.rules.specs.Decode as decoding
 use Rattle.rules.specs.Decode.{newestFirst}
 use Rattle.rules.specs.Calls as calls
 use Rattle.rules.specs.Calls.{refusalOf, written}
-use Rattle.power_sum32.specs.declared.power_sum.PowerSumQuackU32.{PowerSumQuackU32}
 use Rattle.power_sum32.specs.declared.power_sum.Number.{Number}
-use Rattle.power_sum32.specs.Answers.{built}
+use Rattle.power_sum32.proofs.Idle.{both}
 use Rattle.decoder32.specs.Answers.{decodeOf}
 use Rattle.decoder32.proofs.decode_with_log.Reads as decode-with-log
-
--- A sketch of threshold 3 with the codes 10 and 12 in it.
-unfoldable pub both : PowerSumQuackU32
-both = built (sketch.insert kind32 (sketch.insert kind32 (fresh 3) 10) 12)
 
 -- ---- refusing everything
 

@@ -8,21 +8,15 @@ use lib.ListN.{length, replicate}
 use contract.Lifetimes.{Lfts}
 use denote.Ref.{RefT, now}
 use Rattle.numbers.specs.Table.{every}
-use Rattle.rules.specs.Kind.{kind32}
 use Rattle.rules.specs.Sketch as sketch
 use Rattle.rules.specs.Sketch.{fresh, each, wellFormed}
 use Rattle.rules.specs.Calls as calls
 use Rattle.rules.specs.Calls.{refusalOf}
-use Rattle.power_sum32.specs.declared.power_sum.PowerSumQuackU32.{PowerSumQuackU32}
 use Rattle.power_sum32.specs.declared.power_sum.Number.{Number}
-use Rattle.power_sum32.specs.Answers.{built}
+use Rattle.power_sum32.proofs.Idle.{both}
 use Rattle.packet_writer32.specs.Answers.{writeOf, writeWithHintOf}
 use Rattle.packet_writer32.proofs.serialize.Reads as serialize
 use Rattle.packet_writer32.proofs.serialize_with_hint.Reads as serialize-with-hint
-
--- A sketch of threshold 3 with the codes 10 and 12 in it.
-unfoldable pub both : PowerSumQuackU32
-both = built (sketch.insert kind32 (sketch.insert kind32 (fresh 3) 10) 12)
 
 -- Writing, into a buffer of 20 bytes.
 pub serialize-refusing-falls : (κs : Lfts 1) (buf buf₁ : RefT (List ℕ)) (r : Number) (n : ℕ) → now buf ≡ replicate 20 0 → r .refusal ≡ suc n

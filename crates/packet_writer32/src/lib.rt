@@ -1,7 +1,7 @@
 // A sketch written as bytes: count, last code and sums, the lowest byte of a number first.
 ghost use mathlib.Core.Path.{_≡_};
 ghost use mathlib.Core.List.{map, _++_};
-ghost use Prim.Native.Nat.{_+_, _*_, _<_, _≤_};
+ghost use Prim.Native.Nat.{_*_, _≤_};
 ghost use lib.ListN.{length, take, drop};
 ghost use Rattle.modint32.specs.Answers.{val};
 ghost use Rattle.rules.specs.Kind.{kind32};

@@ -3,7 +3,6 @@ ghost use mathlib.Core.Path.{_≡_};
 ghost use mathlib.Core.Bool.{true, cond};
 ghost use Rattle.rules.specs.Kind.{kind32};
 ghost use Rattle.rules.specs.Sketch.{placeFits, lastFits, inRange, lastWithout, insert, remove};
-ghost use Rattle.rules.specs.Calls.{written};
 ghost use Rattle.power_sum32.specs.Answers.{view, built, lastOf, lastTo, wellFormedOf, answered, newOf, insertOf, removeOf};
 use modint32::Code;
 use modint32::Residue;
