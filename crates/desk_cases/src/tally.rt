@@ -1,6 +1,6 @@
 // One input fed in pieces of several sizes, and what is written held to what is expected.
 ghost use mathlib.Core.Path.{_≡_};
-ghost use Prim.Native.Nat.{_<_, min};
+ghost use Prim.Native.Nat.{_<_};
 ghost use lib.ListN.{length};
 use desk_text::answer;
 
@@ -17,12 +17,6 @@ pub(crate) fn buffer() -> [u8; 262144]
     [0u8; 262144]
 }
 
-fn smaller(a: usize, b: usize) -> usize
-    ensures { λ r. ⌜ r ≡ min a b ⌝ }
-{
-    if a < b { a } else { b }
-}
-
 // The input in pieces of `size` bytes.
 fn in_pieces(input: &[u8], expected: &[u8], size: usize) -> bool
     requires { ⌜ 0 < size ⌝ }
@@ -31,7 +25,7 @@ fn in_pieces(input: &[u8], expected: &[u8], size: usize) -> bool
     let mut reading = desk_reader::start();
     let mut at: usize = 0;
     while at < input.len() {
-        let end = at + smaller(size, input.len() - at);
+        let end = at + lent::smaller(size, input.len() - at);
         let fed = desk_reader::feed(reading, &mut log, &input[at..end]);
         reading = fed.reading;
         at = end;

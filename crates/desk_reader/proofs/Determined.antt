@@ -12,9 +12,11 @@ use Rattle.desk_reader.specs.declared.Fed.{Fed}
 use Rattle.desk_reader.proofs.start.Reads as start
 use Rattle.desk_reader.proofs.feed.Reads as feed
 
+-- `start` determines its answer.
 pub start-determined : Determines (λ r. start.Post tt tt r tt)
 start-determined = by-equation _
 
+-- `feed` determines its answer and every number of the log.
 pub feed-determined : (κs : Lfts 2) (r : Reading) (log piece log₁ piece₁ log₂ piece₂ : RefT (List ℕ)) (z₁ z₂ : Fed)
     → feed.Post κs (r, (log, (piece, tt))) z₁ (r, (log₁, (piece₁, tt))) → feed.Post κs (r, (log, (piece, tt))) z₂ (r, (log₂, (piece₂, tt)))
     → (z₁ ≡ z₂) × (now log₁ ≡ now log₂)

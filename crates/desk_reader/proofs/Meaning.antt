@@ -21,20 +21,22 @@ use Rattle.rules.proofs.WellFormed.{fresh-well-formed, insert-well-formed, in-r
 use Rattle.rules.proofs.Desk as rules
 use Rattle.rules.proofs.Desk.{State, stateAfter}
 use Rattle.power_sum32.specs.declared.power_sum.Answer.{Answer}
-use Rattle.power_sum32.specs.Answers.{built, empty, sketchAnswer, newOf, insertOf}
-use Rattle.power_sum32.proofs.Chain.{insert-chain}
+use Rattle.power_sum32.specs.Answers.{built, empty, answered, sketchAnswer, newOf, insertOf}
+use Rattle.power_sum32.proofs.Struct.{view-built, built-well-formed}
 use Rattle.desk_reader.specs.declared.Key.the-variants.{Threshold, Log, Got}
 use Rattle.desk_reader.specs.declared.Line.{Line}
 use Rattle.desk_reader.specs.declared.Line.the-variants.{Fresh, Word, Value, Bad}
 use Rattle.desk_reader.specs.declared.Phase.the-variants.{Unbegun, Logs, Gots, Stopped}
 use Rattle.desk_reader.specs.declared.Desk.{Desk}
 use Rattle.desk_reader.specs.declared.Reading.{Reading}
-use Rattle.desk_reader.specs.Reader.{lineByte, emptyDesk, startedDesk, coded, logDesk, gotDesk, takeLine, takenLog, Standing, standing, reading, byteOf, fedOf, startOf, feedAnswer, feedLog}
+use Rattle.desk_reader.specs.Reader.{lineByte, emptyDesk, startedDesk, coded, logDesk, gotDesk, takeLine, takenLog}
+use Rattle.desk_reader.specs.Reader.{Standing, standing, reading, byteOf, fedOf, startOf, feedAnswer, feedLog}
 use Rattle.desk_reader.proofs.Steps.{taken-length}
 use Rattle.desk_reader.proofs.Parse.{said, led, led-says, led-more}
 
 -- ---- sketches of codes
 
+-- The sketch of codes, inserted one by one into a fresh one.
 abbrev pub codes : ℕ → List ℕ → Sketch
 codes = sketchOfCodes kind32
 
@@ -42,44 +44,57 @@ codes = sketchOfCodes kind32
 abbrev pub InRange : ℕ → Type 0
 InRange T = (1 ≤ T) × (T ≤ kind32 .greatest)
 
+-- Inserting keeps a sketch well formed.
 more-well-formed : (s : Sketch) (l : List ℕ) → WellFormed kind32 s → WellFormed kind32 (foldl (sketch.insert kind32) s l)
 more-well-formed s [] w = w
 more-well-formed s (c ∷ l) w = more-well-formed (sketch.insert kind32 s c) l (insert-well-formed kind32 s c w)
 
+-- The sketch of codes is well formed.
 pub codes-well-formed : (T : ℕ) (l : List ℕ) → InRange T → WellFormed kind32 (codes T l)
 codes-well-formed T l r = more-well-formed (sketch.fresh T) l (fresh-well-formed kind32 T (r .0) (r .1))
 
+-- Inserting keeps the threshold.
 more-threshold : (s : Sketch) (l : List ℕ) → foldl (sketch.insert kind32) s l .threshold ≡ s .threshold
 unfolding sketch.insert
 more-threshold s [] = refl
 more-threshold s (c ∷ l) = more-threshold (sketch.insert kind32 s c) l
 
+-- The sketch of codes has the threshold that it was made with.
 pub codes-threshold : (T : ℕ) (l : List ℕ) → codes T l .threshold ≡ T
 unfolding sketch.fresh
 codes-threshold T l = more-threshold (sketch.fresh T) l
 
+-- One code more is inserted last.
 codes-more : (T : ℕ) (l : List ℕ) (c : ℕ) → codes T (l ++ (c ∷ [])) ≡ sketch.insert kind32 (codes T l) c
 codes-more T l c = foldl-append (sketch.insert kind32) (sketch.fresh T) l (c ∷ [])
+
+-- Insert on the struct of a well-formed sketch is the rule on the sketch.
+insert-built : (g : Sketch) (c : ℕ) → WellFormed kind32 g → insertOf (built g) (coded c) ≡ answered 0 (built (sketch.insert kind32 g c))
+unfolding insertOf calls.insert
+insert-built g c w = rw (built-well-formed g w, view-built g w)
 
 -- One code more, by the call.
 insert-more : (T : ℕ) (l : List ℕ) (c : ℕ) → InRange T → insertOf (built (codes T l)) (coded c) .sketch ≡ built (codes T (l ++ (c ∷ [])))
 insert-more T l c r =
-    ap (λ (a : Answer). a .sketch) (insert-chain (codes T l) (coded c) (codes-well-formed T l r)) ∙ ap built (sym (codes-more T l c))
+    ap (λ (a : Answer). a .sketch) (insert-built (codes T l) c (codes-well-formed T l r)) ∙ ap built (sym (codes-more T l c))
 
 -- ---- where the reader stands
 
+-- The desk after these lines.
 abbrev deskOf : Seen → Desk
 deskOf unbegun = emptyDesk Unbegun
 deskOf (logs T l) = record { phase = Logs; entries = length l; sent = built (codes T l); arrived = built (codes T []) }
 deskOf (gots T l g) = record { phase = Gots; entries = length l; sent = built (codes T l); arrived = built (codes T g) }
 deskOf (stopped n) = emptyDesk (Stopped n)
 
+-- The log codes of these lines.
 abbrev entriesOf : Seen → List ℕ
 entriesOf unbegun = []
 entriesOf (logs T l) = l
 entriesOf (gots T l g) = l
 entriesOf (stopped n) = []
 
+-- Their threshold, where they have one, is in range.
 abbrev Ranged : Seen → Type 0
 Ranged unbegun = Unit {0}
 Ranged (logs T l) = InRange T
@@ -108,17 +123,22 @@ entries-few (stopped n) d log h = rw (h .desk) zero-le
 
 -- ---- a whole line
 
+-- A refusal holds with any log.
 holds-stopped : (n : ℕ) (log : List ℕ) → Holds (stopped n) (emptyDesk (Stopped n)) log
 holds-stopped n log = record { desk = refl; entries = refl; few = zero-le; ranged = tt }
 
+-- A threshold line: a fresh sketch, or the refusal 1.
 holds-started : (T : ℕ) (log : List ℕ) (ok : Bool) → inRange kind32 T ≡ ok
     → Holds (cond ok (logs T []) (stopped 1)) (startedDesk (sketchAnswer empty (unless ok 1 (given (sketch.fresh T))))) log
 holds-started T log true e = record { desk = refl; entries = refl; few = zero-le; ranged = in-range-parts kind32 T e }
 holds-started T log false e = holds-stopped 1 log
 
+-- One code more, where the log's first places hold the entries so far.
 module _ (T c : ℕ) (l log : List ℕ) (front : take (length l) log ≡ l) (range : InRange T) where
+  -- A log line: the code is stored behind them, or the refusal 10.
   holds-logged : (room : Bool) → ltb (length l) mostLines ≡ room → mostLines ≤ length log
-      → Holds (cond room (logs T (l ++ (c ∷ []))) (stopped 10)) (cond room (logDesk (deskOf (logs T l)) c) (emptyDesk (Stopped 10))) (cond room (set log (length l) c) log)
+      → Holds (cond room (logs T (l ++ (c ∷ []))) (stopped 10)) (cond room (logDesk (deskOf (logs T l)) c) (emptyDesk (Stopped 10)))
+      (cond room (set log (length l) c) log)
   holds-logged true e places =
       let more = ltb-true (length l) mostLines e in
       let one-more : length (l ++ (c ∷ [])) ≡ suc (length l) = rw length-append (omega arith) in
@@ -131,6 +151,7 @@ module _ (T c : ℕ) (l log : List ℕ) (front : take (length l) log ≡ l) (ran
       }
   holds-logged false e places = holds-stopped 10 log
 
+  -- A got line: the log stays.
   holds-got : (g : List ℕ) → length l ≤ mostLines → Holds (gots T l (g ++ (c ∷ []))) (gotDesk (deskOf (gots T l g)) c) log
   holds-got g few = record { desk = rw (insert-more T g c range); entries = front; few = few; ranged = range }
 
@@ -165,13 +186,20 @@ takes (stopped n) Bad log h room = holds-stopped n log
 
 -- ---- a byte, and any bytes
 
+-- A byte ends the line, or goes on with it.
 tied-byte : (s : State) (w : Standing) (b : ℕ) (ends : Bool) → Tied s w
-    → Tied (cond ends (record { seen = next kind32 (s .seen) (parsed kind32 (s .begun)); begun = [] }) (record { seen = s .seen; begun = s .begun ++ (b ∷ []) }))
+    → Tied
+    (cond ends (record { seen = next kind32 (s .seen) (parsed kind32 (s .begun)); begun = [] }) (record { seen = s .seen; begun = s .begun ++ (b ∷ []) }))
     (cond ends (standing (reading (takeLine (w .reading .desk) (w .reading .line)) Fresh) (takenLog (w .reading .desk) (w .reading .line) (w .log)))
     (standing (reading (w .reading .desk) (lineByte (w .reading .line) b)) (w .log)))
 tied-byte s w b true h =
     let says : said (w .reading .line) ≡ parsed kind32 (s .begun) = ap said (h .line) ∙ led-says (s .begun) in
-    let same : Holds (s .seen) (deskOf (s .seen)) (w .log) = record { desk = refl; entries = h .lines .entries; few = h .lines .few; ranged = h .lines .ranged } in
+    let same : Holds (s .seen) (deskOf (s .seen)) (w .log) = record {
+      desk = refl;
+      entries = h .lines .entries;
+      few = h .lines .few;
+      ranged = h .lines .ranged;
+    } in
     record {
       lines = rw (h .lines .desk, ← says) (takes (s .seen) (w .reading .line) (w .log) same (h .room));
       line = refl;
@@ -179,6 +207,7 @@ tied-byte s w b true h =
     }
 tied-byte s w b false h = record { lines = h .lines; line = ap (λ (l : Line). lineByte l b) (h .line) ∙ sym (led-more (s .begun) b); room = h .room }
 
+-- Any bytes, one after the other.
 tied-bytes : (s : State) (w : Standing) (bs : List ℕ) → Tied s w → Tied (rules.run kind32 s bs) (fedOf w bs)
 tied-bytes s w [] h = h
 tied-bytes s w (b ∷ bs) h = tied-bytes (rules.byte kind32 s b) (byteOf w b) bs (tied-byte s w b (eqb b LF) h)
@@ -194,6 +223,7 @@ tied-piece bs piece w h =
 
 -- ---- the call
 
+-- A reading that stands where the rules stand after some bytes.
 module _ (bs : List ℕ) (r : Reading) (log : List ℕ) (tied : Tied (stateAfter kind32 bs) (standing r log)) where
   -- Feeding a piece goes on with the bytes before it.
   pub tied-feed : (piece : List ℕ) → Tied (stateAfter kind32 (bs ++ piece)) (standing (feedAnswer r log piece .reading) (feedLog r log piece))

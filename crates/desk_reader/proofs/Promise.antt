@@ -1,9 +1,9 @@
 -- The promise of the calls: an input fed in pieces of any length is never refused, and the reading stands where the rules stand.
 -- What a call answers is whatever its contract allows.
 -- Assumes nothing.
-use Prim.Native.Nat.{ℕ, _≤_}
-use mathlib.Core.Path.{_≡_, ap, _∙_}
-use mathlib.Core.List.{List, [], _++_}
+use Prim.Native.Nat.{ℕ}
+use mathlib.Core.Path.{_≡_, ap, sym, _∙_}
+use mathlib.Core.List.{List}
 use lib.ListN.{length}
 use borrow.Author.Tests.{le-leb}
 use contract.Lifetimes.{Lfts}
@@ -14,23 +14,40 @@ use Rattle.rules.proofs.Desk.{stateAfter}
 use Rattle.desk_reader.specs.declared.Reading.{Reading}
 use Rattle.desk_reader.specs.declared.Fed.{Fed}
 use Rattle.desk_reader.specs.Reader.{standing, feedAnswer}
+use Rattle.desk_reader.specs.Read.{Calls, Read, begun, further}
 use Rattle.desk_reader.proofs.Meaning.{Tied, tied-start, tied-feed}
 use Rattle.desk_reader.proofs.start.Reads as start
 use Rattle.desk_reader.proofs.feed.Reads as feed
 
--- A reading with its lent log, got by calls from these bytes: `start`, and then `feed` for each piece.
-pub data Read : List ℕ → Reading → List ℕ → Type 0 where
-  begun : {r : Reading} (log : List ℕ) → mostLines ≤ length log → start.Post tt tt r tt → Read [] r log
-  further : {bs : List ℕ} {r : Reading} {z : Fed} (κs : Lfts 2) (log piece log′ piece′ : RefT (List ℕ)) → Read bs r (now log)
-      → feed.Post κs (r, (log, (piece, tt))) z (r, (log′, (piece′, tt))) → Read (bs ++ now piece) (z .reading) (now log′)
+-- ---- the calls
 
--- It stands where the rules stand.
-pub tied : {bs : List ℕ} {r : Reading} {log : List ℕ} → Read bs r log → Tied (stateAfter kind32 bs) (standing r log)
+-- A piece is fed to a reading that is lent a log.
+pub record PieceFed (r : Reading) (log piece : List ℕ) (z : Fed) (log₁ : List ℕ) : Type 0 where
+  pub κs : Lfts 2
+  pub log-lent : RefT (List ℕ)
+  pub log-lent₁ : RefT (List ℕ)
+  pub piece-lent : RefT (List ℕ)
+  pub piece-lent₁ : RefT (List ℕ)
+  pub the-log : now log-lent ≡ log
+  pub the-piece : now piece-lent ≡ piece
+  pub left : now log-lent₁ ≡ log₁
+  pub promised : feed.Post κs (r, (log-lent, (piece-lent, tt))) z (r, (log-lent₁, (piece-lent₁, tt)))
+
+-- The calls by what their contracts allow.
+abbrev pub the-calls : Calls
+the-calls = record { starts = λ r. start.Post tt tt r tt; feeds = PieceFed }
+
+-- ---- the promise
+
+-- A reading got by calls stands where the rules stand.
+pub tied : {bs : List ℕ} {r : Reading} {log : List ℕ} → Read the-calls bs r log → Tied (stateAfter kind32 bs) (standing r log)
 tied (begun log room p) = rw p (tied-start log room)
-tied (further {bs} {r} κs log piece log′ piece′ read p) = rw (p .0, p .1) (tied-feed bs r (now log) (tied read) (now piece))
+tied (further {bs} {r} log piece log′ read p) =
+    let q = rw (p .the-log, p .the-piece) at (p .promised) in
+    rw (q .0, sym (p .left) ∙ q .1) (tied-feed bs r log (tied read) piece)
 
 -- No piece is refused.
-pub never-refused : {bs : List ℕ} {r : Reading} {z : Fed} (κs : Lfts 2) (log piece log′ piece′ : RefT (List ℕ)) → Read bs r (now log)
-    → feed.Post κs (r, (log, (piece, tt))) z (r, (log′, (piece′, tt))) → z .refusal ≡ 0
+pub never-refused : {bs : List ℕ} {r : Reading} {z : Fed} (κs : Lfts 2) (log piece log₁ piece₁ : RefT (List ℕ)) → Read the-calls bs r (now log)
+    → feed.Post κs (r, (log, (piece, tt))) z (r, (log₁, (piece₁, tt))) → z .refusal ≡ 0
 unfolding feedAnswer
-never-refused {bs} {r} κs log piece log′ piece′ read p = ap (λ (x : Fed). x .refusal) (p .0) ∙ rw (le-leb mostLines (length (now log)) (tied read .room))
+never-refused κs log piece log₁ piece₁ read p = ap (λ (x : Fed). x .refusal) (p .0) ∙ rw (le-leb mostLines (length (now log)) (tied read .room))

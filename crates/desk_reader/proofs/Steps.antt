@@ -23,11 +23,13 @@ use Rattle.desk_reader.specs.Reader.{wordOf, wordByte, firstDigit, lineB
 
 -- ---- a line's word
 
+-- No word has more than ten bytes.
 pub word-short : (k : Key) → length (wordOf k) ≤ 10
 word-short Threshold = omega arith
 word-short Log = omega arith
 word-short Got = omega arith
 
+-- A line that has led into its word.
 module _ {l r : Line} {k : Key} {at n : ℕ} (b : ℕ) (e : l ≡ Word k at) (s : n ≡ length (wordOf k)) where
   -- A byte of the word.
   pub in-word : at < n → r ≡ wordByte k at b → r ≡ lineByte l b
@@ -41,6 +43,7 @@ module _ {l r : Line} {k : Key} {at n : ℕ} (b : ℕ) (e : l ≡ Word k at) (s 
 
 -- ---- the lent log
 
+-- Storing a log code leaves the log as long as it was.
 stored-length : (p : Phase) (room : Bool) (n c : ℕ) (log : List ℕ) → length (byPhase p log (cond room (set log n c) log) log log) ≡ length log
 stored-length Unbegun room n c log = refl
 stored-length Logs true n c log = length-set log n c
@@ -67,10 +70,12 @@ pub record Partly (s₀ : Standing) (piece : List ℕ) (end : ℕ) (s : Standing
   pub as-long : length (s .log) ≡ length (s₀ .log)
   pub whole : fedOf s (drop i piece) ≡ fedOf s₀ piece
 
+-- A byte other than LF goes on with the line.
 goes-on : (s : Standing) (b : ℕ) → (b ≡ LF → ⊥) → byteOf s b ≡ standing (reading (s .reading .desk) (lineByte (s .reading .line) b)) (s .log)
 goes-on s b e = simp (ne-eqb b LF e)
 
 module _ {s₀ : Standing} {piece : List ℕ} where
+  -- Before the first byte.
   pub partly-start : Partly s₀ piece (length piece) s₀ 0
   partly-start = record { within = zero-le; all = refl; as-long = refl; whole = refl }
 

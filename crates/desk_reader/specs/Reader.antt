@@ -23,6 +23,7 @@ use Rattle.desk_reader.specs.declared.Fed.{Fed}
 
 -- ---- a line, byte by byte
 
+-- The bytes of a line's word, its `=` included.
 abbrev pub wordOf : Key → List ℕ
 wordOf Threshold = thresholdWord
 wordOf Log = logWord
@@ -32,9 +33,11 @@ wordOf Got = gotWord
 unfoldable pub firstByte : ℕ → Line
 firstByte b = cond (eqb b 116) (Word Threshold 1) (cond (eqb b 108) (Word Log 1) (cond (eqb b 103) (Word Got 1) Bad))
 
+-- A byte of the word, at this place of it.
 unfoldable pub wordByte : Key → ℕ → ℕ → Line
 wordByte k at b = cond (eqb b (getD (wordOf k) at 0)) (Word k (at + 1)) Bad
 
+-- The byte behind the word is a digit.
 unfoldable pub firstDigit : Key → ℕ → Line
 firstDigit k b = cond (isDigit b) (Value k (b - 48)) Bad
 
@@ -42,6 +45,7 @@ firstDigit k b = cond (isDigit b) (Value k (b - 48)) Bad
 unfoldable pub nextDigit : Key → ℕ → ℕ → Line
 nextDigit k v b = cond (eqb v 0) Bad (cond (isDigit b && leb (v * 10 + (b - 48)) (greatestNumber kind32)) (Value k (v * 10 + (b - 48))) Bad)
 
+-- One byte more of a line, not its LF.
 unfoldable pub lineByte : Line → ℕ → Line
 lineByte Fresh b = firstByte b
 lineByte (Word k at) b = cond (ltb at (length (wordOf k))) (wordByte k at b) (firstDigit k b)
@@ -57,9 +61,11 @@ byPhase Logs a b c d = b
 byPhase Gots a b c d = c
 byPhase (Stopped n) a b c d = d
 
+-- A desk without sketches: before the first line, or after a refusal.
 abbrev pub emptyDesk : Phase → Desk
 emptyDesk p = record { phase = p; entries = 0; sent = empty; arrived = empty }
 
+-- A line that is not allowed where it stands: 9, unless an earlier line has decided.
 abbrev pub badLine : Desk → Desk
 badLine d = byPhase (d .phase) (emptyDesk (Stopped 9)) (emptyDesk (Stopped 9)) (emptyDesk (Stopped 9)) d
 
@@ -67,15 +73,19 @@ badLine d = byPhase (d .phase) (emptyDesk (Stopped 9)) (emptyDesk (Stopped 9)) (
 abbrev pub startedDesk : Answer → Desk
 startedDesk a = cond (eqb (a .refusal) 0) (record { phase = Logs; entries = 0; sent = a .sketch; arrived = a .sketch }) (emptyDesk (Stopped (a .refusal)))
 
+-- A threshold line: allowed as the first.
 abbrev pub thresholdLine : Desk → ℕ → Desk
 thresholdLine d T = byPhase (d .phase) (startedDesk (newOf T)) (badLine d) (badLine d) (badLine d)
 
+-- A code of this number.
 abbrev pub coded : ℕ → Code
 coded c = record { 0 = c }
 
+-- The desk with one log code more.
 abbrev pub logDesk : Desk → ℕ → Desk
 logDesk d c = record { phase = Logs; entries = d .entries + 1; sent = insertOf (d .sent) (coded c) .sketch; arrived = d .arrived }
 
+-- A log line: allowed before the got lines, and 10 beyond as many as there may be.
 abbrev pub logLine : Desk → ℕ → Desk
 logLine d c = byPhase (d .phase) (badLine d) (cond (ltb (d .entries) mostLines) (logDesk d c) (emptyDesk (Stopped 10))) (badLine d) (badLine d)
 
@@ -83,12 +93,15 @@ logLine d c = byPhase (d .phase) (badLine d) (cond (ltb (d .entries) mostLines) 
 abbrev pub storedLog : Desk → ℕ → List ℕ → List ℕ
 storedLog d c log = byPhase (d .phase) log (cond (ltb (d .entries) mostLines) (set log (d .entries) c) log) log log
 
+-- The desk with one got code more.
 abbrev pub gotDesk : Desk → ℕ → Desk
 gotDesk d c = record { phase = Gots; entries = d .entries; sent = d .sent; arrived = insertOf (d .arrived) (coded c) .sketch }
 
+-- A got line: allowed behind the threshold line, and no log line comes behind it.
 abbrev pub gotLine : Desk → ℕ → Desk
 gotLine d c = byPhase (d .phase) (badLine d) (gotDesk d c) (gotDesk d c) (badLine d)
 
+-- The desk after a whole line, by where its bytes have led.
 unfoldable pub takeLine : Desk → Line → Desk
 takeLine d (Value Threshold v) = thresholdLine d v
 takeLine d (Value Log v) = logLine d v
@@ -97,6 +110,7 @@ takeLine d Fresh = badLine d
 takeLine d (Word k at) = badLine d
 takeLine d Bad = badLine d
 
+-- The lent log after a whole line.
 unfoldable pub takenLog : Desk → Line → List ℕ → List ℕ
 takenLog d (Value Threshold v) log = log
 takenLog d (Value Log v) log = storedLog d v log
@@ -112,9 +126,11 @@ pub record Standing : Type 0 where
   pub reading : Reading
   pub log : List ℕ
 
+-- The two side by side.
 abbrev pub standing : Reading → List ℕ → Standing
 standing r log = record { reading = r; log = log }
 
+-- A desk and the line begun.
 abbrev pub reading : Desk → Line → Reading
 reading d l = record { desk = d; line = l }
 
@@ -125,11 +141,13 @@ byteOf s b =
     (standing (reading (takeLine (s .reading .desk) (s .reading .line)) Fresh) (takenLog (s .reading .desk) (s .reading .line) (s .log)))
     (standing (reading (s .reading .desk) (lineByte (s .reading .line) b)) (s .log))
 
+-- The bytes of a piece, one after the other.
 abbrev pub fedOf : Standing → List ℕ → Standing
 fedOf = foldl byteOf
 
 -- ---- the calls
 
+-- The reading before the first byte.
 abbrev pub startOf : Reading
 startOf = reading (emptyDesk Unbegun) Fresh
 
@@ -138,5 +156,6 @@ unfoldable pub feedAnswer : Reading → List ℕ → List ℕ → Fed
 feedAnswer r log piece =
     cond (leb mostLines (length log)) (record { refusal = 0; reading = fedOf (standing r log) piece .reading }) (record { refusal = 5; reading = r })
 
+-- The lent log after a piece: as it was where the call is refused.
 unfoldable pub feedLog : Reading → List ℕ → List ℕ → List ℕ
 feedLog r log piece = cond (leb mostLines (length log)) (fedOf (standing r log) piece .log) log

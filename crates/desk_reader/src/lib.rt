@@ -3,7 +3,9 @@ ghost use mathlib.Core.Path.{_≡_};
 ghost use Prim.Native.Nat.{_≤_, _<_};
 ghost use lib.ListN.{length, getD};
 ghost use Rattle.rules.specs.Desk.{mostLines};
-ghost use Rattle.desk_reader.specs.Reader.{wordOf, firstByte, wordByte, firstDigit, nextDigit, lineByte, emptyDesk, badLine, thresholdLine, logLine, storedLog, gotLine, takeLine, takenLog, logDesk, gotDesk, standing, fedOf, startOf, feedAnswer, feedLog};
+ghost use Rattle.desk_reader.specs.Reader.{wordOf, firstByte, wordByte, firstDigit, nextDigit, lineByte};
+ghost use Rattle.desk_reader.specs.Reader.{emptyDesk, badLine, thresholdLine, logDesk, logLine, storedLog, gotDesk, gotLine, takeLine, takenLog};
+ghost use Rattle.desk_reader.specs.Reader.{standing, fedOf, startOf, feedAnswer, feedLog};
 use modint32::Code;
 use power_sum32::power_sum::PowerSumQuackU32;
 

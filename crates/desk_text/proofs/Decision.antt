@@ -12,16 +12,15 @@ use borrow.Author.Tests.{eq-eqb, ne-eqb, le-leb, lt-leb}
 use Rattle.rules.specs.Kind.{kind32}
 use Rattle.rules.specs.Decode.{decode}
 use Rattle.rules.specs.Calls as calls
-use Rattle.rules.specs.Calls.{Outcome, refused, given, unless, refusalOf, written}
+use Rattle.rules.specs.Calls.{Outcome, refused, given, unless, refusalOf, written, fitting}
 use Rattle.rules.specs.Desk.{mostLines, reported}
-use Rattle.rules.specs.Text.{printed, fitting}
+use Rattle.rules.specs.Text.{printed}
 use Rattle.rules.proofs.Room.{decode-fewer}
 use Rattle.power_sum32.specs.declared.power_sum.PowerSumQuackU32.{PowerSumQuackU32}
 use Rattle.power_sum32.specs.declared.power_sum.Answer.{Answer}
-use Rattle.power_sum32.specs.declared.power_sum.Number.{Number}
-use Rattle.power_sum32.specs.Answers.{view, wellFormedOf, numbered}
-use Rattle.subtract32.specs.Answers.{subAssignOf}
-use Rattle.decoder32.specs.Answers.{decodeOf}
+use Rattle.lent.specs.declared.Number.{Number}
+use Rattle.lent.specs.Answers.{numbered}
+use Rattle.power_sum32.specs.Answers.{view, wellFormedOf, subAssignOf, decodeOf}
 use Rattle.desk_reader.specs.declared.Phase.{Phase}
 use Rattle.desk_reader.specs.declared.Desk.{Desk}
 use Rattle.desk_reader.specs.declared.Reading.{Reading}
@@ -35,7 +34,8 @@ told-refused (refused m) n e l = ap refused (sym (ap (λ (x : Number). x .refusa
 told-refused (given f) n e l = absurd (omega (arith, ap (λ (x : Number). x .refusal) e))
 
 -- Decoding that is not refused gives what the rule lists.
-decode-not-refused : (s : PowerSumQuackU32) (l : List ℕ) (places : ℕ) → refusalOf (decodeOf s l places) ≤ 0 → decodeOf s l places ≡ given (decode kind32 (view s) l)
+decode-not-refused : (s : PowerSumQuackU32) (l : List ℕ) (places : ℕ) → refusalOf (decodeOf s l places) ≤ 0
+    → decodeOf s l places ≡ given (decode kind32 (view s) l)
 unfolding decodeOf calls.decode
 decode-not-refused s l places = by-tests (wellFormedOf s) (leb (s .count) (s .threshold)) (leb (length l) places)
   where
@@ -54,29 +54,35 @@ pub record Listed (s : PowerSumQuackU32) (l : List ℕ) (places : ℕ) (found : 
   pub buffer : found′ ≡ written (decodeOf s l places) found
   pub ok : n .refusal ≤ 0
 
+-- A decoding that is not refused.
 module _ {s : PowerSumQuackU32} {l : List ℕ} {places : ℕ} {found : List ℕ} {n : Number} {found′ : List ℕ} (h : Listed s l places found n found′) where
   -- It gives what the rule lists.
   pub listed-given : decodeOf s l places ≡ given (decode kind32 (view s) l)
   listed-given = decode-not-refused s l places (omega (arith, h .ok, ap (λ (x : Number). x .refusal) (h .answer)))
 
+  -- Its length is answered.
   many : n .value ≡ length (decode kind32 (view s) l)
   many = ap (λ (x : Number). x .value) (h .answer ∙ ap numbered listed-given)
 
+  -- It stands at the front of the buffer.
   front : found′ ≡ decode kind32 (view s) l ++ drop (length (decode kind32 (view s) l)) found
   front = h .buffer ∙ ap (λ (o : Outcome (List ℕ)). written o found) listed-given
 
-  -- There are no more than the log has entries, and they lie within the buffer, at its front.
+  -- There are no more than the log has entries.
   pub listed-few : n .value ≤ length l
   listed-few = omega (arith, many, decode-fewer kind32 (view s) l)
 
+  -- They lie within the buffer.
   pub listed-within : n .value ≤ length found′
   listed-within = rw (front, length-append) (omega (arith, many))
 
+  -- As many numbers from its front are the list.
   pub listed-taken : take (n .value) found′ ≡ decode kind32 (view s) l
   listed-taken = rw front (take-at (decode kind32 (view s) l) _ (n .value) (sym many))
 
 -- ---- which outcome it is
 
+-- By what the subtraction answers.
 module _ (d : Desk) (log : List ℕ) {a : Answer} (e : a ≡ subAssignOf (d .sent) (d .arrived)) where
   -- The subtraction is refused.
   pub subtraction-refused : 0 < a .refusal → decidedOf d log ≡ refused (a .refusal)
@@ -86,6 +92,7 @@ module _ (d : Desk) (log : List ℕ) {a : Answer} (e : a ≡ subAssignOf (d .sen
       rw (← e, some)
 
   module _ (ok : a .refusal ≤ 0) where
+    -- The log's entries.
     abbrev l : List ℕ
     l = take (d .entries) log
 
@@ -108,11 +115,12 @@ module _ (d : Desk) (log : List ℕ) {a : Answer} (e : a ≡ subAssignOf (d .sen
 -- ---- the end of the input
 
 module _ (r : Reading) (log : List ℕ) where
-  -- A line begun, or none.
+  -- A line is begun.
   pub settled-bad : isFresh (r .line) ≡ false → settledOf r log ≡ refused 9
   unfolding settledOf
   settled-bad e = rw e
 
+  -- None is.
   pub settled-decided : isFresh (r .line) ≡ true → settledOf r log ≡ decidedOf (r .desk) log
   unfolding settledOf
   settled-decided e = rw e
@@ -127,11 +135,12 @@ module _ (r : Reading) (log : List ℕ) where
   unfolding finishOf
   finish-with room l e = rw (le-leb mostLines (length log) l, le-leb (r .desk .entries) mostLines e)
 
-  -- The lent log has too few places, or the reading claims too many entries.
+  -- The lent log has too few places.
   pub finish-without : (room : ℕ) → length log < mostLines → finishOf r log room ≡ refused 5
   unfolding finishOf
   finish-without room l = rw (lt-leb mostLines (length log) l)
 
+  -- The reading claims too many entries.
   pub finish-over : (room : ℕ) → mostLines ≤ length log → mostLines < r .desk .entries → finishOf r log room ≡ refused 5
   unfolding finishOf
   finish-over room l e = rw (le-leb mostLines (length log) l, lt-leb (r .desk .entries) mostLines e)

@@ -7,20 +7,18 @@ use mathlib.Core.List.{List, [], _∷_, foldl}
 use native.Mathlib.Omega.{arith}
 use lib.Dec.{eqb, leb, ltb}
 use lib.ListN.{length, getD, take}
-use borrow.Author.Tests.{le-leb}
+use borrow.Author.Tests.{le-leb, eq-eqb}
 use Rattle.rules.specs.Kind.{kind32}
+use Rattle.rules.specs.Calls.{fitting}
 use Rattle.rules.specs.Sketch.{Sketch, WellFormed, subtract}
 use Rattle.rules.specs.Calls as calls
 use Rattle.rules.specs.Lines.{greatestNumber, isDigit}
 use Rattle.rules.specs.Desk.{mostLines, Seen, unbegun, logs, gots, stopped, closed, decided, outcome}
-use Rattle.rules.specs.Text.{printed, deskAnswer, fitting}
+use Rattle.rules.specs.Text.{printed, deskAnswer}
 use Rattle.rules.proofs.WellFormed.{subtract-well-formed}
 use Rattle.rules.proofs.Desk.{stateAfter, read-after}
-use Rattle.power_sum32.specs.Answers.{built, answered}
-use Rattle.subtract32.specs.Answers.{subAssignOf}
-use Rattle.decoder32.specs.Answers.{decodeOf}
-use Rattle.subtract32.proofs.Chain.{sub-assign-chain}
-use Rattle.decoder32.proofs.Chain.{decode-chain}
+use Rattle.power_sum32.specs.Answers.{built, answered, subAssignOf, decodeOf}
+use Rattle.power_sum32.proofs.Struct.{view-built, built-well-formed}
 use Rattle.desk_reader.specs.declared.Key.the-variants.{Threshold, Log, Got}
 use Rattle.desk_reader.specs.declared.Line.{Line}
 use Rattle.desk_reader.specs.declared.Line.the-variants.{Fresh, Word, Value, Bad}
@@ -37,10 +35,12 @@ use Rattle.desk_text.proofs.Decision.{finish-with}
 
 -- ---- a line begun is not fresh
 
+-- Neither of two lines is fresh.
 either-begun : (t : Bool) (x y : Line) → isFresh x ≡ false → isFresh y ≡ false → isFresh (cond t x y) ≡ false
 either-begun true x y p q = p
 either-begun false x y p q = q
 
+-- A line is not fresh after a byte.
 byte-begun : (l : Line) (b : ℕ) → isFresh (lineByte l b) ≡ false
 unfolding lineByte firstByte wordByte firstDigit nextDigit
 byte-begun Fresh b =
@@ -54,23 +54,42 @@ byte-begun (Value k v) b =
     (either-begun (isDigit b && leb (v * 10 + (b - 48)) (greatestNumber kind32)) (Value k (v * 10 + (b - 48))) Bad refl refl)
 byte-begun Bad b = refl
 
+-- Nor after any further bytes.
 bytes-begun : (l : Line) (b : ℕ) (bs : List ℕ) → isFresh (foldl lineByte l (b ∷ bs)) ≡ false
 bytes-begun l b [] = byte-begun l b
 bytes-begun l b (x ∷ bs) = bytes-begun (lineByte l b) x bs
 
+-- ---- the calls on structs of well-formed sketches are the rules on the sketches
+
+-- Subtracting, where the thresholds agree.
+sub-assign-built : (g o : Sketch) → WellFormed kind32 g → WellFormed kind32 o → g .threshold ≡ o .threshold
+    → subAssignOf (built g) (built o) ≡ answered 0 (built (subtract kind32 g o))
+unfolding subAssignOf calls.subAssign
+sub-assign-built g o w v e = rw (built-well-formed g w, built-well-formed o v, view-built g w, view-built o v, eq-eqb (g .threshold) (o .threshold) e)
+
+-- Decoding.
+decode-built : (g : Sketch) (log : List ℕ) (places : ℕ) → WellFormed kind32 g → decodeOf (built g) log places ≡ calls.decode kind32 true g log places
+unfolding decodeOf
+decode-built g log places w = rw (built-well-formed g w, view-built g w)
+
 -- ---- the end of the input
 
+-- The lines of a good input, of which the log's first places hold the entries.
 module _ (T : ℕ) (l g log : List ℕ) (range : InRange T) (front : take (length l) log ≡ l) (few : length l ≤ mostLines) where
+  -- The sketch of the pieces that are missing.
   abbrev lacking : Sketch
   lacking = subtract kind32 (codes T l) (codes T g)
 
+  -- It is well formed.
   lacking-well-formed : WellFormed kind32 lacking
   lacking-well-formed = subtract-well-formed kind32 (codes T l) (codes T g) (codes-well-formed T l range) (codes-well-formed T g range)
 
+  -- It is what subtracting answers.
   subtracted : subAssignOf (built (codes T l)) (built (codes T g)) ≡ answered 0 (built lacking)
   subtracted =
-      sub-assign-chain (codes T l) (codes T g) (codes-well-formed T l range) (codes-well-formed T g range) (codes-threshold T l ∙ sym (codes-threshold T g))
+      sub-assign-built (codes T l) (codes T g) (codes-well-formed T l range) (codes-well-formed T g range) (codes-threshold T l ∙ sym (codes-threshold T g))
 
+  -- Its threshold is the input's.
   lacking-threshold : lacking .threshold ≡ T
   unfolding subtract
   lacking-threshold = rw (codes-threshold T l, codes-threshold T g) (omega arith)
@@ -80,9 +99,11 @@ module _ (T : ℕ) (l g log : List ℕ) (range : InRange T) (front : take (lengt
   unfolding calls.decode
   listed =
       let all : leb (length l) (length l) ≡ true = le-leb (length l) (length l) (omega arith) in
-      decode-chain lacking l mostLines lacking-well-formed ∙ rw (le-leb (length l) mostLines few, all)
+      decode-built lacking l mostLines lacking-well-formed ∙ rw (le-leb (length l) mostLines few, all)
 
-  decides : (p : Phase) → decidedOf (record { phase = p; entries = length l; sent = built (codes T l); arrived = built (codes T g) }) log ≡ decided kind32 T l lacking
+  -- The decision is the rules'.
+  decides : (p : Phase)
+      → decidedOf (record { phase = p; entries = length l; sent = built (codes T l); arrived = built (codes T g) }) log ≡ decided kind32 T l lacking
   unfolding decidedOf decided
   decides p = rw (subtracted, front, listed, lacking-threshold)
 
@@ -96,6 +117,7 @@ ends (gots T l g) [] d log h = rw (h .desk) (decides T l g log (h .ranged) (h .e
 ends (gots T l g) (b ∷ bs) d log h = rw (h .desk, bytes-begun Fresh b bs)
 ends (stopped n) begun d log h = rw (h .desk)
 
+-- So the text is the rules' answer.
 text : (bs : List ℕ) (w : Standing) → Tied (stateAfter kind32 bs) w → printed (outcomeOf (w .reading) (w .log)) ≡ deskAnswer kind32 bs
 unfolding deskAnswer
 text bs w h =
@@ -105,6 +127,7 @@ text bs w h =
 
 -- ---- the calls
 
+-- A reading that stands where the rules stand after some bytes.
 module _ (bs : List ℕ) (r : Reading) (log : List ℕ) (tied : Tied (stateAfter kind32 bs) (standing r log)) where
   -- Once all bytes are fed, in whatever pieces, the text is the rules' answer to them.
   pub tied-finish : (room : ℕ) → finishOf r log room ≡ fitting (deskAnswer kind32 bs) room

@@ -10,29 +10,34 @@ use borrow.Author.Tests.{le-leb, lt-leb}
 use contract.Lifetimes.{Lfts}
 use denote.Ref.{RefT, now}
 use Rattle.rules.specs.Kind.{kind32}
-use Rattle.rules.specs.Text.{deskAnswer, fitting}
+use Rattle.rules.specs.Calls.{refused, fitting}
+use Rattle.rules.specs.Text.{deskAnswer}
 use Rattle.rules.proofs.Room.{answer-short}
-use Rattle.power_sum32.specs.declared.power_sum.Number.{Number}
+use Rattle.lent.specs.declared.Number.{Number}
+use Rattle.lent.specs.Answers.{numbered, counted}
 use Rattle.desk_reader.specs.declared.Reading.{Reading}
-use Rattle.desk_reader.proofs.Promise.{Read, tied}
+use Rattle.desk_reader.specs.Read.{Read}
+use Rattle.desk_reader.proofs.Promise.{the-calls, tied}
 use Rattle.desk_text.specs.Answer.{finishOf}
 use Rattle.desk_text.proofs.Meaning.{tied-finish}
 use Rattle.desk_text.proofs.answer.finish.Reads as finish
 
-module _ {bs : List ℕ} {r : Reading} {n : Number} (κs : Lfts 2) (log out log′ out′ : RefT (List ℕ)) (read : Read bs r (now log))
-    (p : finish.Post κs (r, (log, (out, tt))) n (r, (log′, (out′, tt)))) where
+-- A reading got by calls from these bytes, and what `finish` answers to it.
+module _ {bs : List ℕ} {r : Reading} {n : Number} (κs : Lfts 2) (log out log₁ out₁ : RefT (List ℕ)) (read : Read the-calls bs r (now log))
+    (p : finish.Post κs (r, (log, (out, tt))) n (r, (log₁, (out₁, tt)))) where
+  -- It comes to the rules' answer, where that fits.
   outcome : finishOf r (now log) (length (now out)) ≡ fitting (deskAnswer kind32 bs) (length (now out))
   outcome = tied-finish bs r (now log) (tied read) (length (now out))
 
   -- Where the buffer is long enough, the answer stands at its front, later bytes are untouched, and its length is told.
   pub answered : length (deskAnswer kind32 bs) ≤ length (now out)
-      → (n ≡ record { refusal = 0; value = length (deskAnswer kind32 bs) }) × (now out′ ≡ deskAnswer kind32 bs ++ drop (length (deskAnswer kind32 bs)) (now out))
+      → (n ≡ counted (length (deskAnswer kind32 bs))) × (now out₁ ≡ deskAnswer kind32 bs ++ drop (length (deskAnswer kind32 bs)) (now out))
   answered l =
       let fits = le-leb (length (deskAnswer kind32 bs)) (length (now out)) l in
       (p .0 ∙ rw (outcome, fits), p .1 .0 ∙ rw (outcome, fits))
 
   -- Where it is too short, 5 is answered and no byte is written.
-  pub too-short : length (now out) < length (deskAnswer kind32 bs) → (n ≡ record { refusal = 5; value = 0 }) × (now out′ ≡ now out)
+  pub too-short : length (now out) < length (deskAnswer kind32 bs) → (n ≡ numbered (refused 5)) × (now out₁ ≡ now out)
   too-short l =
       let short = lt-leb (length (deskAnswer kind32 bs)) (length (now out)) l in
       (p .0 ∙ rw (outcome, short), p .1 .0 ∙ rw (outcome, short))

@@ -9,13 +9,13 @@ use native.Mathlib.Omega.{arith}
 use lib.ListN.{length, getD, take, drop, set, length-append}
 use lib.Seq.{take-suc, take-all, length-take-le, sets, sets-eq, length-sets}
 use borrow.Author.Tests.{le-leb, lt-leb}
-use Rattle.rules.specs.Calls.{Outcome, refused, given, written}
+use Rattle.rules.specs.Calls.{Outcome, refused, given, written, fitting}
 use Rattle.rules.specs.Lines.{thresholdWord}
-use Rattle.rules.specs.Text.{decimal, refusalWord, countWord, foundWord, missingWord, line, lines, printed, fitting}
+use Rattle.rules.specs.Text.{decimal, refusalWord, countWord, foundWord, missingWord, line, lines, printed}
 use Rattle.rules.proofs.Text.{decimal-digit, decimal-digits, decimal-short, lines-more, lines-part}
-use Rattle.power_sum32.specs.declared.power_sum.Number.{Number}
-use Rattle.power_sum32.specs.Answers.{numbered}
-use Rattle.power_sum32.proofs.Lists.{refusal, listing}
+use Rattle.lent.specs.declared.Number.{Number}
+use Rattle.lent.specs.Answers.{numbered, counted}
+use Rattle.lent.proofs.Lists.{refusal, listing}
 use Rattle.desk_text.specs.Writer.{Put, foundText, Within}
 
 -- ---- texts one behind the other
@@ -28,10 +28,11 @@ sets-append (x ∷ a) b l i =
     ap (λ (k : ℕ). sets (sets (set l i x) (suc i) a) k b) e ∙ sets-append a b (set l i x) (suc i)
 
 module _ {before : List ℕ} {at : ℕ} where
-  -- No text, and a text of one byte.
+  -- No text.
   pub put-none : Put before at [] before at
   put-none = record { ends = sym (add-zero at); stored = refl }
 
+  -- A text of one byte.
   pub put-byte : (b : ℕ) → Put before at (b ∷ []) (set before at b) (at + 1)
   put-byte b = record { ends = refl; stored = refl }
 
@@ -47,19 +48,21 @@ module _ {before : List ℕ} {at : ℕ} where
     pub put-length : length after ≡ length before
     put-length = ap length (p .stored) ∙ length-sets before at text
 
-    -- The same text, or the same end, said another way.
+    -- The same text said another way.
     pub put-as : {other : List ℕ} → text ≡ other → Put before at other after end
     put-as e = rw (← e) p
 
+    -- The same end said another way.
     put-to : {other : ℕ} → end ≡ other → Put before at text after other
     put-to e = rw (← e) p
 
 -- ---- the digits of a number
 
--- A number below 10 has one digit, and any other one more than its tenth.
+-- A number below 10 has one digit.
 pub one-digit : (n : ℕ) → n < 10 → length (decimal n) ≡ 1
 one-digit n l = rw (decimal-digit n l)
 
+-- Any other has one more than its tenth.
 pub more-digits : (n : ℕ) → 10 ≤ n → length (decimal n) ≡ length (decimal (n / 10)) + 1
 more-digits n l = rw (decimal-digits n l, length-append)
 
@@ -76,10 +79,12 @@ pub record Storing (before : List ℕ) (at : ℕ) (bytes : List ℕ) (end : ℕ)
   pub so-far : Put before at (take i bytes) out (at + i)
 
 module _ {before : List ℕ} {at : ℕ} {bytes : List ℕ} where
+  -- Before the first byte.
   pub storing-start : Storing before at bytes (length bytes) before 0
   storing-start = record { within = zero-le; all = refl; so-far = rw add-zero put-none }
 
   module _ {end : ℕ} {out : List ℕ} {i : ℕ} (s : Storing before at bytes end out i) where
+    -- One byte more.
     pub storing-turn : i < end → Storing before at bytes end (set out (at + i) (getD bytes i 0)) (i + 1)
     storing-turn more =
         let u : i < length bytes = omega arith in
@@ -90,9 +95,11 @@ module _ {before : List ℕ} {at : ℕ} {bytes : List ℕ} where
           so-far = put-to (put-as (put-then (s .so-far) (put-byte (getD bytes i 0))) one-more) (omega arith);
         }
 
+    -- The buffer stays as long as it was.
     pub storing-length : length out ≡ length before
     storing-length = put-length (s .so-far)
 
+    -- After the last byte all are stored.
     pub storing-done : end ≤ i → Put before at bytes out (at + length bytes)
     storing-done done = put-to (put-as (s .so-far) (take-all i bytes (omega arith))) (omega arith)
 
@@ -104,11 +111,13 @@ pub record Counting (word list : List ℕ) (end size i : ℕ) : Type 0 where
   pub so-far : size ≡ length (lines word (take i list))
 
 module _ {word list : List ℕ} where
+  -- Before the first number.
   pub counting-start : Counting word list (length list) 0 0
   unfolding lines
   counting-start = record { within = zero-le; all = refl; small = zero-le; so-far = refl }
 
   module _ {end size i : ℕ} (s : Counting word list end size i) where
+    -- One line more.
     pub counting-turn : {more : ℕ} → i < end → (more ≡ length (line word (getD list i 0))) × (more ≤ 31) → Counting word list end (size + more) (i + 1)
     counting-turn l m =
         let u : i < length list = omega arith in
@@ -119,6 +128,7 @@ module _ {word list : List ℕ} where
           so-far = rw (lines-more word list i u, length-append) (omega (arith, m .0));
         }
 
+    -- After the last number all are counted.
     pub counting-done : end ≤ i → size ≡ length (lines word list)
     counting-done done =
         let u : length list ≤ i = omega arith in
@@ -131,6 +141,7 @@ pub record Listing (before : List ℕ) (at : ℕ) (word list : List ℕ) (end : 
   pub so-far : Put before at (lines word (take i list)) out here
 
 module _ {before : List ℕ} {at : ℕ} {word list : List ℕ} where
+  -- Before the first number.
   pub listing-start : Listing before at word list (length list) before at 0
   unfolding lines
   listing-start = record { within = zero-le; all = refl; so-far = put-none }
@@ -140,17 +151,22 @@ module _ {before : List ℕ} {at : ℕ} {word list : List ℕ} where
     pub listing-room : at + length (lines word list) ≤ length before → i < end → here + length (line word (getD list i 0)) ≤ length out
     listing-room room l =
         let u : i < length list = omega arith in
-        let more : length (lines word (take (i + 1) list)) ≡ length (lines word (take i list)) + length (line word (getD list i 0)) = rw (lines-more word list i u, length-append) in
+        let more : length (lines word (take (i + 1) list)) ≡ length (lines word (take i list)) + length (line word (getD list i 0)) =
+        rw (lines-more word list i u, length-append) in
         omega (arith, lines-part word list (i + 1), s .so-far .ends, put-length (s .so-far))
 
-    pub listing-turn : {out′ : List ℕ} {here′ : ℕ} → i < end → Put out here (line word (getD list i 0)) out′ here′ → Listing before at word list end out′ here′ (i + 1)
+    -- One line more.
+    pub listing-turn : {out′ : List ℕ} {here′ : ℕ} → i < end → Put out here (line word (getD list i 0)) out′ here′
+        → Listing before at word list end out′ here′ (i + 1)
     listing-turn l p =
         let u : i < length list = omega arith in
         record { within = omega arith; all = s .all; so-far = put-as (put-then (s .so-far) p) (sym (lines-more word list i u)) }
 
+    -- The buffer stays as long as it was.
     pub listing-length : length out ≡ length before
     listing-length = put-length (s .so-far)
 
+    -- After the last number all their lines are stored.
     pub listing-done : end ≤ i → Put before at (lines word list) out here
     listing-done done =
         let u : length list ≤ i = omega arith in
@@ -161,28 +177,33 @@ module _ {before : List ℕ} {at : ℕ} {word list : List ℕ} where
 module _ (threshold count : ℕ) (found : List ℕ) where
   -- Its length, part by part.
   pub found-length : length (foundText threshold count found)
-      ≡ length (line refusalWord 0) + length (line thresholdWord threshold) + length (line countWord count) + length (line foundWord (length found)) + length (lines missingWord found)
+      ≡ length (line refusalWord 0) + length (line thresholdWord threshold) + length (line countWord count) + length (line foundWord (length found))
+      + length (lines missingWord found)
   unfolding printed
   found-length = simp length-append (omega arith)
 
-  -- There is room for each part where the one before it ends.
+  -- There is room for the first part.
   pub room-refusal : (out : List ℕ) → length (foundText threshold count found) ≤ length out → 0 + length (line refusalWord 0) ≤ length out
   room-refusal out room = omega (arith, found-length)
 
   module _ {out : List ℕ} (room : length (foundText threshold count found) ≤ length out) where
     module _ {out₁ : List ℕ} {end₁ : ℕ} (p₁ : Put out 0 (line refusalWord 0) out₁ end₁) where
+      -- There is room for the second where the first ends.
       pub room-threshold : end₁ + length (line thresholdWord threshold) ≤ length out₁
       room-threshold = omega (arith, found-length, p₁ .ends, put-length p₁)
 
       module _ {out₂ : List ℕ} {end₂ : ℕ} (p₂ : Put out₁ end₁ (line thresholdWord threshold) out₂ end₂) where
+        -- There is room for the third where the second ends.
         pub room-count : end₂ + length (line countWord count) ≤ length out₂
         room-count = omega (arith, found-length, p₁ .ends, put-length p₁, p₂ .ends, put-length p₂)
 
         module _ {out₃ : List ℕ} {end₃ : ℕ} (p₃ : Put out₂ end₂ (line countWord count) out₃ end₃) where
+          -- There is room for the fourth where the third ends.
           pub room-found : end₃ + length (line foundWord (length found)) ≤ length out₃
           room-found = omega (arith, found-length, p₁ .ends, put-length p₁, p₂ .ends, put-length p₂, p₃ .ends, put-length p₃)
 
           module _ {out₄ : List ℕ} {end₄ : ℕ} (p₄ : Put out₃ end₃ (line foundWord (length found)) out₄ end₄) where
+            -- There is room for the list's lines where the fourth ends.
             pub room-missing : end₄ + length (lines missingWord found) ≤ length out₄
             room-missing =
                 omega (arith, found-length, p₁ .ends, put-length p₁, p₂ .ends, put-length p₂, p₃ .ends, put-length p₃, p₄ .ends, put-length p₄)
@@ -196,16 +217,16 @@ module _ (threshold count : ℕ) (found : List ℕ) where
 
 module _ (text out : List ℕ) where
   -- Where it fits, it stands at the front.
-  pub text-fits : {after : List ℕ} {end : ℕ} → length text ≤ length out → Put out 0 text after end
-      → (record { refusal = 0; value = end } ≡ numbered (fitting text (length out))) × (after ≡ written (fitting text (length out)) out)
-  text-fits {after} {end} l p =
+  pub text-fits : {r : Number} {after : List ℕ} {end : ℕ} → length text ≤ length out → Put out 0 text after end → r ≡ counted end
+      → (r ≡ numbered (fitting text (length out))) × (after ≡ written (fitting text (length out)) out)
+  text-fits {r} {after} {end} l p e =
       let is : fitting text (length out) ≡ given text = rw (le-leb (length text) (length out) l) in
       let whole : end ≡ length text = omega (arith, p .ends) in
       let behind : 0 + length text ≡ end = omega arith in
-      listing out refl is whole (p .stored ∙ sets-eq text out 0 (omega arith) ∙ ap (λ (k : ℕ). text ++ drop k out) behind)
+      listing out e is whole (p .stored ∙ sets-eq text out 0 (omega arith) ∙ ap (λ (k : ℕ). text ++ drop k out) behind)
 
   -- Where it does not, nothing is stored.
-  pub text-short : {r : Number} → length out < length text → r ≡ record { refusal = 5; value = 0 }
+  pub text-short : {r : Number} → length out < length text → r ≡ numbered (refused 5)
       → (r ≡ numbered (fitting text (length out))) × (out ≡ written (fitting text (length out)) out)
   text-short l e =
       let is : fitting text (length out) ≡ refused 5 = rw (lt-leb (length text) (length out) l) in
@@ -216,6 +237,7 @@ written-within : (o : Outcome (List ℕ)) (out : List ℕ) {n : Number} {after :
 written-within (refused m) out e f = rw e zero-le
 written-within (given l) out e f = rw (e, f, length-append) (omega arith)
 
+-- So the contract that says so too holds.
 pub and-within : (o : Outcome (List ℕ)) (out : List ℕ) {n : Number} {after : List ℕ} → (n ≡ numbered o) × (after ≡ written o out)
     → (n ≡ numbered o) × ((after ≡ written o out) × Within (n .value) after)
 and-within o out {n} {after} p =

@@ -6,11 +6,10 @@ use mathlib.Core.List.{List}
 use lib.Dec.{eqb, leb}
 use lib.ListN.{length, take}
 use Rattle.power_sum32.specs.declared.power_sum.Answer.{Answer}
-use Rattle.subtract32.specs.Answers.{subAssignOf}
-use Rattle.decoder32.specs.Answers.{decodeOf}
-use Rattle.rules.specs.Calls.{Outcome, refused, unless}
+use Rattle.power_sum32.specs.Answers.{subAssignOf, decodeOf}
+use Rattle.rules.specs.Calls.{Outcome, refused, unless, fitting}
 use Rattle.rules.specs.Desk.{mostLines, Report, reported}
-use Rattle.rules.specs.Text.{printed, fitting}
+use Rattle.rules.specs.Text.{printed}
 use Rattle.desk_reader.specs.declared.Line.{Line}
 use Rattle.desk_reader.specs.declared.Line.the-variants.{Fresh, Word, Value, Bad}
 use Rattle.desk_reader.specs.declared.Phase.{Phase}
@@ -29,6 +28,7 @@ isFresh Bad = false
 abbrev pub listedBy : Answer → List ℕ → Outcome Report
 listedBy a l = cond (eqb (a .refusal) 0) (reported (a .sketch .threshold) (a .sketch .count) (decodeOf (a .sketch) l mostLines)) (refused (a .refusal))
 
+-- The got lines' sketch is subtracted from the log lines', and the log's entries are decoded.
 unfoldable pub decidedOf : Desk → List ℕ → Outcome Report
 decidedOf d log = listedBy (subAssignOf (d .sent) (d .arrived)) (take (d .entries) log)
 
@@ -43,6 +43,7 @@ endedBy Logs o = o
 endedBy Gots o = o
 endedBy (Stopped n) o = refused n
 
+-- What the reading comes to at the end of the input.
 unfoldable pub outcomeOf : Reading → List ℕ → Outcome Report
 outcomeOf r log = endedBy (r .desk .phase) (settledOf r log)
 

@@ -13,9 +13,11 @@ pub record Put (before : List ℕ) (at : ℕ) (text after : List ℕ) (end : ℕ
   pub ends : end ≡ at + length text
   pub stored : after ≡ sets before at text
 
+-- The text of a refusal.
 abbrev pub refusedText : ℕ → List ℕ
 refusedText n = printed (refused n)
 
+-- The text of an answer that is no refusal.
 abbrev pub foundText : ℕ → ℕ → List ℕ → List ℕ
 foundText threshold count found = printed (given (record { threshold = threshold; count = count; found = found }))
 

@@ -2,11 +2,11 @@
 ghost use mathlib.Core.Path.{_≡_};
 ghost use Prim.Native.Nat.{_≤_};
 ghost use lib.ListN.{length};
-ghost use Rattle.power_sum32.specs.Answers.{numbered};
+ghost use Rattle.lent.specs.Answers.{numbered};
 ghost use Rattle.rules.specs.Kind.{kind32};
-ghost use Rattle.rules.specs.Calls.{written};
+ghost use Rattle.rules.specs.Calls.{written, fitting};
 ghost use Rattle.rules.specs.Desk.{mostLines};
-ghost use Rattle.rules.specs.Text.{printed, deskAnswer, fitting};
+ghost use Rattle.rules.specs.Text.{printed, deskAnswer};
 ghost use Rattle.desk_text.specs.Writer.{Within};
 ghost use Rattle.desk_text.specs.Answer.{isFresh, decidedOf, settledOf, outcomeOf, finishOf};
 use crate::writer;
@@ -14,7 +14,7 @@ use desk_reader::Desk;
 use desk_reader::Line;
 use desk_reader::Phase;
 use desk_reader::Reading;
-use power_sum32::power_sum::Number;
+use lent::Number;
 
 fn is_fresh(l: Line) -> bool
     ensures { λ r. ⌜ r ≡ isFresh l ⌝ }
@@ -36,13 +36,13 @@ fn decide(d: Desk, log: &[u32], out: &mut [u8]) -> Number
     let sent = d.sent;
     let arrived = d.arrived;
     let entries = d.entries;
-    let difference = subtract32::sub_assign(sent, arrived);
+    let difference = sent.sub_assign(arrived);
     if difference.refusal > 0 {
         return writer::write_refused(out, difference.refusal);
     }
     let lacking = difference.sketch;
     let mut found = [0u32; 8192];
-    let listed = decoder32::decode_with_log(lacking, &log[..entries], &mut found);
+    let listed = lacking.decode_with_log(&log[..entries], &mut found);
     if listed.refusal > 0 {
         return writer::write_refused(out, listed.refusal);
     }
@@ -87,11 +87,11 @@ pub fn finish(r: Reading, log: &[u32], out: &mut [u8]) -> Number
     ensures within { λ z. ⌜ Within (z .value) (now (out .exit)) ⌝ }
 {
     if log.len() < desk_reader::MOST_LINES {
-        return writer::too_short();
+        return Number::refused(5);
     }
     let desk = r.desk;
     if desk.entries > desk_reader::MOST_LINES {
-        return writer::too_short();
+        return Number::refused(5);
     }
     end(r, log, out)
 }

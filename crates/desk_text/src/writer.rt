@@ -2,12 +2,12 @@
 ghost use mathlib.Core.Path.{_≡_};
 ghost use Prim.Native.Nat.{_+_, _*_, _≤_};
 ghost use lib.ListN.{length};
-ghost use Rattle.power_sum32.specs.Answers.{numbered};
-ghost use Rattle.rules.specs.Calls.{written};
+ghost use Rattle.lent.specs.Answers.{numbered};
+ghost use Rattle.rules.specs.Calls.{written, fitting};
 ghost use Rattle.rules.specs.Desk.{mostLines};
-ghost use Rattle.rules.specs.Text.{lastDigit, decimal, line, lines, fitting};
+ghost use Rattle.rules.specs.Text.{lastDigit, decimal, line, lines};
 ghost use Rattle.desk_text.specs.Writer.{Put, refusedText, foundText};
-use power_sum32::power_sum::Number;
+use lent::Number;
 
 fn last_digit(n: u64) -> u8
     ensures { λ r. ⌜ r ≡ lastDigit n ⌝ }
@@ -95,28 +95,15 @@ fn put_lines(out: &mut [u8], at: usize, word: &[u8], list: &[u32]) -> usize
 
 // ---- answers
 
-pub(crate) fn too_short() -> Number
-    ensures { λ r. ⌜ r ≡ record { refusal = 5; value = 0 } ⌝ }
-{
-    Number {
-        refusal: 5,
-        value: 0,
-    }
-}
-
 // The text of a refusal.
 pub(crate) fn write_refused(out: &mut [u8], n: u32) -> Number
     ensures answer { λ r. ⌜ r ≡ numbered (fitting (refusedText n) (length (now (out .entry)))) ⌝ }
     ensures text { λ r. ⌜ now (out .exit) ≡ written (fitting (refusedText n) (length (now (out .entry)))) (now (out .entry)) ⌝ }
 {
     if out.len() < line_len(b"refusal=", n as u64) {
-        return too_short();
+        return Number::refused(5);
     }
-    let end = put_line(out, 0, b"refusal=", n as u64);
-    Number {
-        refusal: 0,
-        value: end,
-    }
+    Number::wrote(put_line(out, 0, b"refusal=", n as u64))
 }
 
 fn found_len(threshold: usize, count: u32, found: &[u32]) -> usize
@@ -145,14 +132,11 @@ fn put_found(out: &mut [u8], threshold: usize, count: u32, found: &[u32]) -> usi
 pub(crate) fn write_found(out: &mut [u8], threshold: usize, count: u32, found: &[u32]) -> Number
     requires { ⌜ length (now found) ≤ mostLines ⌝ }
     ensures answer { λ r. ⌜ r ≡ numbered (fitting (foundText threshold count (now (found .entry))) (length (now (out .entry)))) ⌝ }
-    ensures text { λ r. ⌜ now (out .exit) ≡ written (fitting (foundText threshold count (now (found .entry))) (length (now (out .entry)))) (now (out .entry)) ⌝ }
+    ensures text { λ r.
+        ⌜ now (out .exit) ≡ written (fitting (foundText threshold count (now (found .entry))) (length (now (out .entry)))) (now (out .entry)) ⌝ }
 {
     if out.len() < found_len(threshold, count, found) {
-        return too_short();
+        return Number::refused(5);
     }
-    let end = put_found(out, threshold, count, found);
-    Number {
-        refusal: 0,
-        value: end,
-    }
+    Number::wrote(put_found(out, threshold, count, found))
 }

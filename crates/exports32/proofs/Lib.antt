@@ -1,7 +1,4 @@
--- What is proved of the words beside the contracts, a file for each matter.
-pub mod Chain
+-- What is proved of the exported calls beside their contracts, a file for each matter.
+mod Heads
 pub mod Determined
-mod Outcomes
-pub mod RoundTrip
-mod Stores
-mod Structs
+pub mod Wrong

@@ -1,39 +1,57 @@
 // A sketch in words, written as bytes and read from them.
 ghost use mathlib.Core.Path.{_≡_};
 ghost use lib.ListN.{length};
+ghost use Rattle.rules.specs.Kind.{kind32};
 ghost use Rattle.rules.specs.Calls.{refusalOf, written};
-ghost use Rattle.exports32.specs.Words.{numbered, writeIn, writeWithHintIn, readIn};
-use crate::answers::Number;
+ghost use Rattle.rules.specs.Words.{writeIn, writeWithHintIn, readIn};
+ghost use Rattle.lent.specs.Answers.{numbered};
 use crate::words;
-
-#[no_mangle]
-pub extern "C" fn eddy32_serialize(s: &[u32], buf: &mut [u8]) -> Number
-    ensures answer { λ r. ⌜ r ≡ numbered (writeIn (now (s .entry)) (length (now (buf .entry)))) ⌝ }
-    ensures buffer { λ r. ⌜ now (buf .exit) ≡ written (writeIn (now (s .entry)) (length (now (buf .entry)))) (now (buf .entry)) ⌝ }
-{
-    let answer = packet_writer32::serialize(words::from_words(s), buf);
-    Number {
-        refusal: answer.refusal,
-        value: answer.value,
-    }
-}
+use crate::words::HEAD;
+use lent::Number;
+use modint32::Code;
+use modint32::Residue;
+use sums32::packet;
 
 #[no_mangle]
 pub extern "C" fn eddy32_serialize_with_hint(s: &[u32], buf: &mut [u8], hint: usize) -> Number
-    ensures answer { λ r. ⌜ r ≡ numbered (writeWithHintIn (now (s .entry)) hint (length (now (buf .entry)))) ⌝ }
-    ensures buffer { λ r. ⌜ now (buf .exit) ≡ written (writeWithHintIn (now (s .entry)) hint (length (now (buf .entry)))) (now (buf .entry)) ⌝ }
+    ensures answer { λ r. ⌜ r ≡ numbered (writeWithHintIn kind32 (now (s .entry)) hint (length (now (buf .entry)))) ⌝ }
+    ensures buffer { λ r. ⌜ now (buf .exit) ≡ written (writeWithHintIn kind32 (now (s .entry)) hint (length (now (buf .entry)))) (now (buf .entry)) ⌝ }
 {
-    let answer = packet_writer32::serialize_with_hint(words::from_words(s), buf, hint);
-    Number {
-        refusal: answer.refusal,
-        value: answer.value,
+    let head = words::head_of(s);
+    if !head.fits {
+        return Number::refused(12);
     }
+    if head.has == 0 {
+        return Number::refused(3);
+    }
+    let end = HEAD + lent::smaller(head.threshold, hint);
+    packet::put_packet(
+        buf,
+        head.count,
+        Residue::reduce(Code(head.last)),
+        &s[HEAD..end],
+    )
+}
+
+#[no_mangle]
+pub extern "C" fn eddy32_serialize(s: &[u32], buf: &mut [u8]) -> Number
+    ensures answer { λ r. ⌜ r ≡ numbered (writeIn kind32 (now (s .entry)) (length (now (buf .entry)))) ⌝ }
+    ensures buffer { λ r. ⌜ now (buf .exit) ≡ written (writeIn kind32 (now (s .entry)) (length (now (buf .entry)))) (now (buf .entry)) ⌝ }
+{
+    eddy32_serialize_with_hint(s, buf, modint32::PLACES)
 }
 
 #[no_mangle]
 pub extern "C" fn eddy32_deserialize(buf: &[u8], out: &mut [u32]) -> u32
-    ensures refusal { λ r. ⌜ r ≡ refusalOf (readIn (now (buf .entry)) (length (now (out .entry)))) ⌝ }
-    ensures words { λ r. ⌜ now (out .exit) ≡ written (readIn (now (buf .entry)) (length (now (out .entry)))) (now (out .entry)) ⌝ }
+    ensures refusal { λ r. ⌜ r ≡ refusalOf (readIn kind32 (now (buf .entry)) (length (now (out .entry)))) ⌝ }
+    ensures words { λ r. ⌜ now (out .exit) ≡ written (readIn kind32 (now (buf .entry)) (length (now (out .entry)))) (now (out .entry)) ⌝ }
 {
-    words::store(packet_reader32::deserialize(buf), out)
+    let at = lent::smaller(out.len(), HEAD);
+    let heads = packet::read(buf, &mut out[at..]);
+    if heads.refusal != 0 {
+        return heads.refusal;
+    }
+    let last = heads.last;
+    words::put_head(out, heads.threshold, heads.count, 1, last.value());
+    0
 }

@@ -1,63 +1,123 @@
 // A sketch in words: made, tested, changed and subtracted.
 ghost use mathlib.Core.Path.{_≡_};
 ghost use lib.ListN.{length};
+ghost use Rattle.rules.specs.Kind.{kind32};
 ghost use Rattle.rules.specs.Calls.{refusalOf, written};
-ghost use Rattle.exports32.specs.Words.{newIn, wellFormedIn, insertIn, removeIn, subAssignIn, subIn};
+ghost use Rattle.rules.specs.Words.{newIn, wellFormedIn, insertIn, removeIn, subAssignIn, subIn};
 use crate::words;
+use crate::words::HEAD;
 use modint32::Code;
-use power_sum32::power_sum::PowerSumQuackU32;
+use modint32::PLACES;
+use modint32::Residue;
+use sums32::places;
+use sums32::powers;
 
 #[no_mangle]
 pub extern "C" fn eddy32_new(threshold: usize, out: &mut [u32]) -> u32
-    ensures refusal { λ r. ⌜ r ≡ refusalOf (newIn threshold (length (now (out .entry)))) ⌝ }
-    ensures words { λ r. ⌜ now (out .exit) ≡ written (newIn threshold (length (now (out .entry)))) (now (out .entry)) ⌝ }
+    ensures refusal { λ r. ⌜ r ≡ refusalOf (newIn kind32 threshold (length (now (out .entry)))) ⌝ }
+    ensures words { λ r. ⌜ now (out .exit) ≡ written (newIn kind32 threshold (length (now (out .entry)))) (now (out .entry)) ⌝ }
 {
-    words::store(PowerSumQuackU32::new(threshold), out)
+    if threshold < 1 {
+        return 1;
+    }
+    if PLACES < threshold {
+        return 1;
+    }
+    let end = HEAD + threshold;
+    if out.len() < end {
+        return 5;
+    }
+    words::put_head(out, threshold, 0, 0, 0);
+    places::clear(&mut out[HEAD..end]);
+    0
 }
 
 #[no_mangle]
 pub extern "C" fn eddy32_well_formed(s: &[u32]) -> u32
-    ensures { λ r. ⌜ r ≡ wellFormedIn (now (s .entry)) ⌝ }
+    ensures { λ r. ⌜ r ≡ wellFormedIn kind32 (now (s .entry)) ⌝ }
 {
-    if words::from_words(s).well_formed() {
-        1
-    } else {
-        0
-    }
+    if words::head_of(s).fits { 1 } else { 0 }
 }
 
 #[no_mangle]
 pub extern "C" fn eddy32_insert(s: &mut [u32], code: u32) -> u32
-    ensures refusal { λ r. ⌜ r ≡ refusalOf (insertIn (now (s .entry)) code) ⌝ }
-    ensures words { λ r. ⌜ now (s .exit) ≡ written (insertIn (now (s .entry)) code) (now (s .entry)) ⌝ }
+    ensures refusal { λ r. ⌜ r ≡ refusalOf (insertIn kind32 (now (s .entry)) code) ⌝ }
+    ensures words { λ r. ⌜ now (s .exit) ≡ written (insertIn kind32 (now (s .entry)) code) (now (s .entry)) ⌝ }
 {
-    let answer = words::from_words(s).insert(Code(code));
-    words::store(answer, s)
+    let head = words::head_of(s);
+    if !head.fits {
+        return 12;
+    }
+    let x = Residue::reduce(Code(code));
+    let end = HEAD + head.threshold;
+    let count = std::num::wrapping_add_u32(head.count, 1);
+    words::put_head(s, head.threshold, count, 1, x.value());
+    powers::shift_by_powers(&mut s[HEAD..end], x, false);
+    0
 }
 
 #[no_mangle]
 pub extern "C" fn eddy32_remove(s: &mut [u32], code: u32) -> u32
-    ensures refusal { λ r. ⌜ r ≡ refusalOf (removeIn (now (s .entry)) code) ⌝ }
-    ensures words { λ r. ⌜ now (s .exit) ≡ written (removeIn (now (s .entry)) code) (now (s .entry)) ⌝ }
+    ensures refusal { λ r. ⌜ r ≡ refusalOf (removeIn kind32 (now (s .entry)) code) ⌝ }
+    ensures words { λ r. ⌜ now (s .exit) ≡ written (removeIn kind32 (now (s .entry)) code) (now (s .entry)) ⌝ }
 {
-    let answer = words::from_words(s).remove(Code(code));
-    words::store(answer, s)
+    let head = words::head_of(s);
+    if !head.fits {
+        return 12;
+    }
+    let x = Residue::reduce(Code(code));
+    let end = HEAD + head.threshold;
+    let count = std::num::wrapping_sub_u32(head.count, 1);
+    let has = words::unless_last(head.has, head.last, code);
+    let last = words::unless_last(head.last, head.last, code);
+    words::put_head(s, head.threshold, count, has, last);
+    powers::shift_by_powers(&mut s[HEAD..end], x, true);
+    0
 }
 
 #[no_mangle]
 pub extern "C" fn eddy32_sub_assign(s: &mut [u32], rhs: &[u32]) -> u32
-    ensures refusal { λ r. ⌜ r ≡ refusalOf (subAssignIn (now (s .entry)) (now (rhs .entry))) ⌝ }
-    ensures words { λ r. ⌜ now (s .exit) ≡ written (subAssignIn (now (s .entry)) (now (rhs .entry))) (now (s .entry)) ⌝ }
+    ensures refusal { λ r. ⌜ r ≡ refusalOf (subAssignIn kind32 (now (s .entry)) (now (rhs .entry))) ⌝ }
+    ensures words { λ r. ⌜ now (s .exit) ≡ written (subAssignIn kind32 (now (s .entry)) (now (rhs .entry))) (now (s .entry)) ⌝ }
 {
-    let answer = subtract32::sub_assign(words::from_words(s), words::from_words(rhs));
-    words::store(answer, s)
+    let head = words::head_of(s);
+    if !head.fits {
+        return 12;
+    }
+    let other = words::head_of(rhs);
+    if !other.fits {
+        return 12;
+    }
+    if head.threshold != other.threshold {
+        return 2;
+    }
+    let end = HEAD + head.threshold;
+    let count = std::num::wrapping_sub_u32(head.count, other.count);
+    words::put_head(s, head.threshold, count, 0, 0);
+    places::subtract(&mut s[HEAD..end], &rhs[HEAD..end]);
+    0
 }
 
 #[no_mangle]
 pub extern "C" fn eddy32_sub(s: &[u32], rhs: &[u32], out: &mut [u32]) -> u32
-    ensures refusal { λ r. ⌜ r ≡ refusalOf (subIn (now (s .entry)) (now (rhs .entry)) (length (now (out .entry)))) ⌝ }
-    ensures words { λ r. ⌜ now (out .exit) ≡ written (subIn (now (s .entry)) (now (rhs .entry)) (length (now (out .entry)))) (now (out .entry)) ⌝ }
+    ensures refusal { λ r. ⌜ r ≡ refusalOf (subIn kind32 (now (s .entry)) (now (rhs .entry)) (length (now (out .entry)))) ⌝ }
+    ensures words { λ r. ⌜ now (out .exit) ≡ written (subIn kind32 (now (s .entry)) (now (rhs .entry)) (length (now (out .entry)))) (now (out .entry)) ⌝ }
 {
-    let answer = subtract32::sub(words::from_words(s), words::from_words(rhs));
-    words::store(answer, out)
+    let head = words::head_of(s);
+    if !head.fits {
+        return 12;
+    }
+    let other = words::head_of(rhs);
+    if !other.fits {
+        return 12;
+    }
+    let threshold = lent::smaller(head.threshold, other.threshold);
+    let end = HEAD + threshold;
+    if out.len() < end {
+        return 5;
+    }
+    let count = std::num::wrapping_sub_u32(head.count, other.count);
+    words::put_head(out, threshold, count, 0, 0);
+    places::put_differences(&mut out[HEAD..end], &s[HEAD..end], &rhs[HEAD..end]);
+    0
 }

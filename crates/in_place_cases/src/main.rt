@@ -1,7 +1,5 @@
 // Runs the calls in place on cases of the bench, and writes how many there are and how many differ.
 ghost use Prim.Native.Nat.{_≤_};
-use in_place32::insert_once;
-use in_place32::remove_once;
 use libc::STDOUT_FILENO;
 use modint32::Code;
 use modint32::Residue;
@@ -49,9 +47,9 @@ fn holds(
 fn two_insertions() -> bool {
     let fresh = PowerSumQuackU32::new(3);
     let empty = fresh.sketch;
-    let once = insert_once(empty, Code(10));
+    let once = empty.insert_once(Code(10));
     let one = once.sketch;
-    let twice = insert_once(one, Code(12));
+    let twice = one.insert_once(Code(12));
     if twice.refusal != 0 {
         return false;
     }
@@ -63,9 +61,9 @@ fn two_insertions() -> bool {
 fn back_and_forth(code: u32, last: u32) -> bool {
     let fresh = PowerSumQuackU32::new(2);
     let empty = fresh.sketch;
-    let there = insert_once(empty, Code(4294967295));
+    let there = empty.insert_once(Code(4294967295));
     let one = there.sketch;
-    let back = remove_once(one, Code(code));
+    let back = one.remove_once(Code(code));
     if back.refusal != 0 {
         return false;
     }
@@ -77,7 +75,7 @@ fn back_and_forth(code: u32, last: u32) -> bool {
 fn refused() -> bool {
     let fresh = PowerSumQuackU32::new(2);
     let empty = fresh.sketch;
-    let once = insert_once(empty, Code(10));
+    let once = empty.insert_once(Code(10));
     let one = once.sketch;
     let sums = one.sums;
     let last = one.last;
@@ -87,7 +85,7 @@ fn refused() -> bool {
         count: one.count,
         last,
     };
-    let again = insert_once(ill_formed, Code(7));
+    let again = ill_formed.insert_once(Code(7));
     if again.refusal != 12 {
         return false;
     }
@@ -98,6 +96,7 @@ fn refused() -> bool {
     holds(after, 10, 100, 0, 1, 10)
 }
 
+// 1 for a difference, 0 for none.
 fn one_unless(same: bool) -> u8
     ensures { λ r. ⌜ r ≤ 1 ⌝ }
 {

@@ -1,10 +1,15 @@
 -- Every public call of the field determines its result: any two results that its contract allows for one input are equal.
 -- Assumes nothing.
 use Prim.Native.Nat.{ℕ}
-use Rattle.rules.specs.Determines.{Determines}
+use Rattle.rules.specs.Determines.{holds, Determines}
 use Rattle.rules.proofs.Determined.{by-equation}
 use Rattle.modint32.specs.declared.Code.{Code}
 use Rattle.modint32.specs.declared.Residue.{Residue}
+use Rattle.modint32.proofs.below.Reads as below
+use Rattle.modint32.proofs.plus.Reads as plus
+use Rattle.modint32.proofs.minus.Reads as minus
+use Rattle.modint32.proofs.times.Reads as times
+use Rattle.modint32.proofs.times_plus.Reads as times-plus
 use Rattle.modint32.proofs.Residue.reduce.Reads as reduce
 use Rattle.modint32.proofs.Residue.zero.Reads as zero
 use Rattle.modint32.proofs.Residue.value.Reads as value
@@ -24,56 +29,94 @@ use Rattle.modint32.proofs.Code.pow.Reads as code-pow
 use Rattle.modint32.proofs.Code.inv.Reads as code-inv
 use Rattle.modint32.proofs.precompute.inverse_at.Reads as inverse-at
 
-pub reduce-determined : (code : Code) → Determines (λ r. reduce.Post tt (code, tt) r (code, tt))
+-- Reducing a number has one answer.
+pub below-determined : (a : ℕ) → Determines (holds (below.Post tt) (a, tt))
+below-determined a = by-equation _
+
+-- Adding two numbers has one answer.
+pub plus-determined : (a b : ℕ) → Determines (holds (plus.Post tt) (a, (b, tt)))
+plus-determined a b = by-equation _
+
+-- Subtracting one number from another has one answer.
+pub minus-determined : (a b : ℕ) → Determines (holds (minus.Post tt) (a, (b, tt)))
+minus-determined a b = by-equation _
+
+-- Multiplying two numbers has one answer.
+pub times-determined : (a b : ℕ) → Determines (holds (times.Post tt) (a, (b, tt)))
+times-determined a b = by-equation _
+
+-- A product of numbers with a further term has one answer.
+pub times-plus-determined : (a b c : ℕ) → Determines (holds (times-plus.Post tt) (a, (b, (c, tt))))
+times-plus-determined a b c = by-equation _
+
+-- Reducing a code has one answer.
+pub reduce-determined : (code : Code) → Determines (holds (reduce.Post tt) (code, tt))
 reduce-determined code = by-equation _
 
-pub zero-determined : Determines (λ r. zero.Post tt tt r tt)
+-- The residue zero has one answer.
+pub zero-determined : Determines (holds (zero.Post tt) tt)
 zero-determined = by-equation _
 
-pub value-determined : (a : Residue) → Determines (λ r. value.Post tt (a, tt) r (a, tt))
+-- The number of a residue has one answer.
+pub value-determined : (a : Residue) → Determines (holds (value.Post tt) (a, tt))
 value-determined a = by-equation _
 
-pub residue-add-determined : (a : Residue) (b : Residue) → Determines (λ r. residue-add.Post tt (a, (b, tt)) r (a, (b, tt)))
+-- Adding two residues has one answer.
+pub residue-add-determined : (a b : Residue) → Determines (holds (residue-add.Post tt) (a, (b, tt)))
 residue-add-determined a b = by-equation _
 
-pub residue-sub-determined : (a : Residue) (b : Residue) → Determines (λ r. residue-sub.Post tt (a, (b, tt)) r (a, (b, tt)))
+-- Subtracting one residue from another has one answer.
+pub residue-sub-determined : (a b : Residue) → Determines (holds (residue-sub.Post tt) (a, (b, tt)))
 residue-sub-determined a b = by-equation _
 
-pub residue-neg-determined : (a : Residue) → Determines (λ r. residue-neg.Post tt (a, tt) r (a, tt))
+-- The negative of a residue has one answer.
+pub residue-neg-determined : (a : Residue) → Determines (holds (residue-neg.Post tt) (a, tt))
 residue-neg-determined a = by-equation _
 
-pub residue-mul-determined : (a : Residue) (b : Residue) → Determines (λ r. residue-mul.Post tt (a, (b, tt)) r (a, (b, tt)))
+-- Multiplying two residues has one answer.
+pub residue-mul-determined : (a b : Residue) → Determines (holds (residue-mul.Post tt) (a, (b, tt)))
 residue-mul-determined a b = by-equation _
 
-pub mul-add-determined : (a : Residue) (b : Residue) (term : Code) → Determines (λ r. mul-add.Post tt (a, (b, (term, tt))) r (a, (b, (term, tt))))
+-- A product of residues with a further code has one answer.
+pub mul-add-determined : (a b : Residue) (term : Code) → Determines (holds (mul-add.Post tt) (a, (b, (term, tt))))
 mul-add-determined a b term = by-equation _
 
-pub residue-pow-determined : (a : Residue) (exponent : ℕ) → Determines (λ r. residue-pow.Post tt (a, (exponent, tt)) r (a, (exponent, tt)))
-residue-pow-determined a exponent = by-equation _
+-- The power of a residue, with its number of multiplications, has one answer.
+pub residue-pow-determined : (a : Residue) (e : ℕ) → Determines (holds (residue-pow.Post tt) (a, (e, tt)))
+residue-pow-determined a e = by-equation _
 
-pub pow-multiplications-determined : (exponent : ℕ) → Determines (λ r. pow-multiplications.Post tt (exponent, tt) r (exponent, tt))
-pow-multiplications-determined exponent = by-equation _
+-- The number of multiplications for an exponent has one answer.
+pub pow-multiplications-determined : (e : ℕ) → Determines (holds (pow-multiplications.Post tt) (e, tt))
+pow-multiplications-determined e = by-equation _
 
-pub residue-inv-determined : (a : Residue) → Determines (λ r. residue-inv.Post tt (a, tt) r (a, tt))
+-- The inverse of a residue has one answer.
+pub residue-inv-determined : (a : Residue) → Determines (holds (residue-inv.Post tt) (a, tt))
 residue-inv-determined a = by-equation _
 
-pub code-add-determined : (a : Code) (b : Code) → Determines (λ r. code-add.Post tt (a, (b, tt)) r (a, (b, tt)))
+-- Adding two codes has one answer.
+pub code-add-determined : (a b : Code) → Determines (holds (code-add.Post tt) (a, (b, tt)))
 code-add-determined a b = by-equation _
 
-pub code-sub-determined : (a : Code) (b : Code) → Determines (λ r. code-sub.Post tt (a, (b, tt)) r (a, (b, tt)))
+-- Subtracting one code from another has one answer.
+pub code-sub-determined : (a b : Code) → Determines (holds (code-sub.Post tt) (a, (b, tt)))
 code-sub-determined a b = by-equation _
 
-pub code-neg-determined : (a : Code) → Determines (λ r. code-neg.Post tt (a, tt) r (a, tt))
+-- The negative of a code has one answer.
+pub code-neg-determined : (a : Code) → Determines (holds (code-neg.Post tt) (a, tt))
 code-neg-determined a = by-equation _
 
-pub code-mul-determined : (a : Code) (b : Code) → Determines (λ r. code-mul.Post tt (a, (b, tt)) r (a, (b, tt)))
+-- Multiplying two codes has one answer.
+pub code-mul-determined : (a b : Code) → Determines (holds (code-mul.Post tt) (a, (b, tt)))
 code-mul-determined a b = by-equation _
 
-pub code-pow-determined : (a : Code) (exponent : ℕ) → Determines (λ r. code-pow.Post tt (a, (exponent, tt)) r (a, (exponent, tt)))
-code-pow-determined a exponent = by-equation _
+-- The power of a code, with its number of multiplications, has one answer.
+pub code-pow-determined : (a : Code) (e : ℕ) → Determines (holds (code-pow.Post tt) (a, (e, tt)))
+code-pow-determined a e = by-equation _
 
-pub code-inv-determined : (a : Code) → Determines (λ r. code-inv.Post tt (a, tt) r (a, tt))
+-- The inverse of a code has one answer.
+pub code-inv-determined : (a : Code) → Determines (holds (code-inv.Post tt) (a, tt))
 code-inv-determined a = by-equation _
 
-pub inverse-at-determined : (i : ℕ) → Determines (λ r. inverse-at.Post tt (i, tt) r (i, tt))
+-- An entry of the table of inverses has one answer.
+pub inverse-at-determined : (i : ℕ) → Determines (holds (inverse-at.Post tt) (i, tt))
 inverse-at-determined i = by-equation _

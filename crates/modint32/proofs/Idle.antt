@@ -34,6 +34,7 @@ pub none-falls : pow-multiplications.Post tt (4294967295, tt) 0 (4294967295, tt)
 unfolding multiplications multiplicationsWithin
 none-falls p = let e : _≡_ {A = ℕ} 0 62 = p in omega arith
 
+-- A number as large as the exponent is not allowed.
 pub as-many-as-the-exponent-falls : pow-multiplications.Post tt (10, tt) 10 (10, tt) → ⊥
 unfolding multiplications multiplicationsWithin
 as-many-as-the-exponent-falls p = let e : _≡_ {A = ℕ} 10 4 = p in omega arith

@@ -1,13 +1,19 @@
 -- Two wrong answers for each public call of the field, at one input each: the contract allows neither.
 -- Assumes nothing.
 use Prim.Native.Nat.{ℕ}
-use mathlib.Core.Path.{_≡_, ap}
-use native.Mathlib.Omega.{arith}
+use mathlib.Core.Path.{refl}
 use Rattle.numbers.specs.Power.{powerWithin, powerMod}
 use Rattle.rules.specs.Field.{multiplicationsWithin, multiplications}
+use Rattle.rules.specs.Determines.{holds, RefusesBoth}
+use Rattle.rules.proofs.Determined.{differs, both-differ}
 use Rattle.modint32.specs.declared.Code.{Code}
 use Rattle.modint32.specs.declared.Powered.{Powered}
 use Rattle.modint32.specs.Answers.{val, wrap}
+use Rattle.modint32.proofs.below.Reads as below
+use Rattle.modint32.proofs.plus.Reads as plus
+use Rattle.modint32.proofs.minus.Reads as minus
+use Rattle.modint32.proofs.times.Reads as times
+use Rattle.modint32.proofs.times_plus.Reads as times-plus
 use Rattle.modint32.proofs.Residue.reduce.Reads as reduce
 use Rattle.modint32.proofs.Residue.zero.Reads as zero
 use Rattle.modint32.proofs.Residue.value.Reads as value
@@ -16,84 +22,133 @@ use Rattle.modint32.proofs.Residue.sub.Reads as residue-sub
 use Rattle.modint32.proofs.Residue.neg.Reads as residue-neg
 use Rattle.modint32.proofs.Residue.mul.Reads as residue-mul
 use Rattle.modint32.proofs.Residue.mul_add.Reads as mul-add
+use Rattle.modint32.proofs.Residue.pow.Reads as residue-pow
 use Rattle.modint32.proofs.Residue.pow_multiplications.Reads as pow-multiplications
 use Rattle.modint32.proofs.Residue.inv.Reads as residue-inv
 use Rattle.modint32.proofs.Code.add.Reads as code-add
 use Rattle.modint32.proofs.Code.sub.Reads as code-sub
 use Rattle.modint32.proofs.Code.neg.Reads as code-neg
 use Rattle.modint32.proofs.Code.mul.Reads as code-mul
+use Rattle.modint32.proofs.Code.pow.Reads as code-pow
 use Rattle.modint32.proofs.Code.inv.Reads as code-inv
 use Rattle.modint32.proofs.precompute.inverse_at.Reads as inverse-at
-use Rattle.modint32.proofs.Residue.pow.Reads as residue-pow
-use Rattle.modint32.proofs.Code.pow.Reads as code-pow
 
 abbrev code : ℕ → Code
 code n = record { 0 = n }
 
-pub reduce-wrong : (reduce.Post tt (code 4294967291, tt) (wrap 4294967291) (code 4294967291, tt) → ⊥) × (reduce.Post tt (code 4294967291, tt) (wrap 4) (code 4294967291, tt) → ⊥)
-reduce-wrong = ((λ p. let e : _≡_ {A = ℕ} 4294967291 0 = ap val p in omega arith), (λ p. let e : _≡_ {A = ℕ} 4 0 = ap val p in omega arith))
+-- What is read off a number is the number.
+abbrev itself : ℕ → ℕ
+itself n = n
 
-pub zero-wrong : (zero.Post tt tt (wrap 1) tt → ⊥) × (zero.Post tt tt (wrap 4294967291) tt → ⊥)
-zero-wrong = ((λ p. let e : _≡_ {A = ℕ} 1 0 = ap val p in omega arith), (λ p. let e : _≡_ {A = ℕ} 4294967291 0 = ap val p in omega arith))
+-- ---- numbers
 
-pub value-wrong : (value.Post tt (wrap 4294967291, tt) 0 (wrap 4294967291, tt) → ⊥) × (value.Post tt (wrap 4294967291, tt) 4 (wrap 4294967291, tt) → ⊥)
-value-wrong = ((λ p. let e : _≡_ {A = ℕ} 0 4294967291 = p in omega arith), (λ p. let e : _≡_ {A = ℕ} 4 4294967291 = p in omega arith))
+-- The prime is let through, or taken off as if it were 2^32.
+pub below-wrong : RefusesBoth (holds (below.Post tt) (4294967291, tt)) 4294967291 4294967295
+below-wrong = both-differ itself _ _ refl refl
 
-pub residue-add-wrong : (residue-add.Post tt (wrap 4294967290, (wrap 1, tt)) (wrap 4294967291) (wrap 4294967290, (wrap 1, tt)) → ⊥) × (residue-add.Post tt (wrap 4294967290, (wrap 1, tt)) (wrap 4294967290) (wrap 4294967290, (wrap 1, tt)) → ⊥)
-residue-add-wrong = ((λ p. let e : _≡_ {A = ℕ} 4294967291 0 = ap val p in omega arith), (λ p. let e : _≡_ {A = ℕ} 4294967290 0 = ap val p in omega arith))
+-- A sum is not reduced, or reduced by one too many.
+pub plus-wrong : RefusesBoth (holds (plus.Post tt) (4294967290, (1, tt))) 4294967291 1
+plus-wrong = both-differ itself _ _ refl refl
 
-pub residue-sub-wrong : (residue-sub.Post tt (wrap 0, (wrap 1, tt)) (wrap 1) (wrap 0, (wrap 1, tt)) → ⊥) × (residue-sub.Post tt (wrap 0, (wrap 1, tt)) (wrap 4294967295) (wrap 0, (wrap 1, tt)) → ⊥)
-residue-sub-wrong = ((λ p. let e : _≡_ {A = ℕ} 1 4294967290 = ap val p in omega arith), (λ p. let e : _≡_ {A = ℕ} 4294967295 4294967290 = ap val p in omega arith))
+-- A difference is taken the other way round, or modulo 2^32.
+pub minus-wrong : RefusesBoth (holds (minus.Post tt) (0, (1, tt))) 1 4294967295
+minus-wrong = both-differ itself _ _ refl refl
 
-pub residue-neg-wrong : (residue-neg.Post tt (wrap 1, tt) (wrap 1) (wrap 1, tt) → ⊥) × (residue-neg.Post tt (wrap 1, tt) (wrap 4294967295) (wrap 1, tt) → ⊥)
-residue-neg-wrong = ((λ p. let e : _≡_ {A = ℕ} 1 4294967290 = ap val p in omega arith), (λ p. let e : _≡_ {A = ℕ} 4294967295 4294967290 = ap val p in omega arith))
+-- The square of -1 is 4, or is not reduced.
+pub times-wrong : RefusesBoth (holds (times.Post tt) (4294967290, (4294967290, tt))) 4 4294967290
+times-wrong = both-differ itself _ _ refl refl
 
-pub residue-mul-wrong : (residue-mul.Post tt (wrap 4294967290, (wrap 4294967290, tt)) (wrap 4) (wrap 4294967290, (wrap 4294967290, tt)) → ⊥) × (residue-mul.Post tt (wrap 4294967290, (wrap 4294967290, tt)) (wrap 4294967290) (wrap 4294967290, (wrap 4294967290, tt)) → ⊥)
-residue-mul-wrong = ((λ p. let e : _≡_ {A = ℕ} 4 1 = ap val p in omega arith), (λ p. let e : _≡_ {A = ℕ} 4294967290 1 = ap val p in omega arith))
+-- The term is left out, or multiplied too.
+pub times-plus-wrong : RefusesBoth (holds (times-plus.Post tt) (2, (3, (4, tt)))) 6 14
+times-plus-wrong = both-differ itself _ _ refl refl
 
-pub mul-add-wrong : (mul-add.Post tt (wrap 2, (wrap 3, (code 4, tt))) (wrap 6) (wrap 2, (wrap 3, (code 4, tt))) → ⊥) × (mul-add.Post tt (wrap 2, (wrap 3, (code 4, tt))) (wrap 14) (wrap 2, (wrap 3, (code 4, tt))) → ⊥)
-mul-add-wrong = ((λ p. let e : _≡_ {A = ℕ} 6 10 = ap val p in omega arith), (λ p. let e : _≡_ {A = ℕ} 14 10 = ap val p in omega arith))
+-- ---- residues
 
-pub pow-multiplications-wrong : (pow-multiplications.Post tt (10, tt) 5 (10, tt) → ⊥) × (pow-multiplications.Post tt (10, tt) 10 (10, tt) → ⊥)
+-- The prime is let through, or reduced to another residue.
+pub reduce-wrong : RefusesBoth (holds (reduce.Post tt) (code 4294967291, tt)) (wrap 4294967291) (wrap 4)
+reduce-wrong = both-differ val _ _ refl refl
+
+-- One, or the prime, for zero.
+pub zero-wrong : RefusesBoth (holds (zero.Post tt) tt) (wrap 1) (wrap 4294967291)
+zero-wrong = both-differ val _ _ refl refl
+
+-- A number is reduced when it is shown.
+pub value-wrong : RefusesBoth (holds (value.Post tt) (wrap 4294967291, tt)) 0 4
+value-wrong = both-differ itself _ _ refl refl
+
+-- A sum is not reduced, or is one too small.
+pub residue-add-wrong : RefusesBoth (holds (residue-add.Post tt) (wrap 4294967290, (wrap 1, tt))) (wrap 4294967291) (wrap 4294967290)
+residue-add-wrong = both-differ val _ _ refl refl
+
+-- A difference is taken the other way round, or modulo 2^32.
+pub residue-sub-wrong : RefusesBoth (holds (residue-sub.Post tt) (wrap 0, (wrap 1, tt))) (wrap 1) (wrap 4294967295)
+residue-sub-wrong = both-differ val _ _ refl refl
+
+-- A number for its negative, or the negative modulo 2^32.
+pub residue-neg-wrong : RefusesBoth (holds (residue-neg.Post tt) (wrap 1, tt)) (wrap 1) (wrap 4294967295)
+residue-neg-wrong = both-differ val _ _ refl refl
+
+-- The square of -1 is 4, or -1.
+pub residue-mul-wrong : RefusesBoth (holds (residue-mul.Post tt) (wrap 4294967290, (wrap 4294967290, tt))) (wrap 4) (wrap 4294967290)
+residue-mul-wrong = both-differ val _ _ refl refl
+
+-- The term is left out, or multiplied too.
+pub mul-add-wrong : RefusesBoth (holds (mul-add.Post tt) (wrap 2, (wrap 3, (code 4, tt)))) (wrap 6) (wrap 14)
+mul-add-wrong = both-differ val _ _ refl refl
+
+-- One multiplication too many, or as many as the exponent.
+pub pow-multiplications-wrong : RefusesBoth (holds (pow-multiplications.Post tt) (10, tt)) 5 10
 unfolding multiplications multiplicationsWithin
-pow-multiplications-wrong = ((λ p. let e : _≡_ {A = ℕ} 5 4 = p in omega arith), (λ p. let e : _≡_ {A = ℕ} 10 4 = p in omega arith))
+pow-multiplications-wrong = both-differ itself _ _ refl refl
 
-pub residue-inv-wrong : (residue-inv.Post tt (wrap 2, tt) (wrap 1) (wrap 2, tt) → ⊥) × (residue-inv.Post tt (wrap 2, tt) (wrap 2147483645) (wrap 2, tt) → ⊥)
+-- One for the inverse of 2, or a number near it.
+pub residue-inv-wrong : RefusesBoth (holds (residue-inv.Post tt) (wrap 2, tt)) (wrap 1) (wrap 2147483645)
 unfolding powerMod powerWithin
-residue-inv-wrong = ((λ p. let e : _≡_ {A = ℕ} 1 2147483646 = ap val p in omega arith), (λ p. let e : _≡_ {A = ℕ} 2147483645 2147483646 = ap val p in omega arith))
+residue-inv-wrong = both-differ val _ _ refl refl
 
-pub code-add-wrong : (code-add.Post tt (code 4294967295, (code 1, tt)) (wrap 0) (code 4294967295, (code 1, tt)) → ⊥) × (code-add.Post tt (code 4294967295, (code 1, tt)) (wrap 4) (code 4294967295, (code 1, tt)) → ⊥)
-code-add-wrong = ((λ p. let e : _≡_ {A = ℕ} 0 5 = ap val p in omega arith), (λ p. let e : _≡_ {A = ℕ} 4 5 = ap val p in omega arith))
+-- ---- codes
 
-pub code-sub-wrong : (code-sub.Post tt (code 0, (code 4294967295, tt)) (wrap 1) (code 0, (code 4294967295, tt)) → ⊥) × (code-sub.Post tt (code 0, (code 4294967295, tt)) (wrap 4) (code 0, (code 4294967295, tt)) → ⊥)
-code-sub-wrong = ((λ p. let e : _≡_ {A = ℕ} 1 4294967287 = ap val p in omega arith), (λ p. let e : _≡_ {A = ℕ} 4 4294967287 = ap val p in omega arith))
+-- Codes are added modulo 2^32, or one too small.
+pub code-add-wrong : RefusesBoth (holds (code-add.Post tt) (code 4294967295, (code 1, tt))) (wrap 0) (wrap 4)
+code-add-wrong = both-differ val _ _ refl refl
 
-pub code-neg-wrong : (code-neg.Post tt (code 4294967295, tt) (wrap 1) (code 4294967295, tt) → ⊥) × (code-neg.Post tt (code 4294967295, tt) (wrap 4) (code 4294967295, tt) → ⊥)
-code-neg-wrong = ((λ p. let e : _≡_ {A = ℕ} 1 4294967287 = ap val p in omega arith), (λ p. let e : _≡_ {A = ℕ} 4 4294967287 = ap val p in omega arith))
+-- A difference is taken modulo 2^32, or the other way round.
+pub code-sub-wrong : RefusesBoth (holds (code-sub.Post tt) (code 0, (code 4294967295, tt))) (wrap 1) (wrap 4)
+code-sub-wrong = both-differ val _ _ refl refl
 
-pub code-mul-wrong : (code-mul.Post tt (code 4294967295, (code 4294967295, tt)) (wrap 1) (code 4294967295, (code 4294967295, tt)) → ⊥) × (code-mul.Post tt (code 4294967295, (code 4294967295, tt)) (wrap 4) (code 4294967295, (code 4294967295, tt)) → ⊥)
-code-mul-wrong = ((λ p. let e : _≡_ {A = ℕ} 1 16 = ap val p in omega arith), (λ p. let e : _≡_ {A = ℕ} 4 16 = ap val p in omega arith))
+-- The negative modulo 2^32, or the residue itself.
+pub code-neg-wrong : RefusesBoth (holds (code-neg.Post tt) (code 4294967295, tt)) (wrap 1) (wrap 4)
+code-neg-wrong = both-differ val _ _ refl refl
 
-pub code-inv-wrong : (code-inv.Post tt (code 4294967293, tt) (wrap 4294967293) (code 4294967293, tt) → ⊥) × (code-inv.Post tt (code 4294967293, tt) (wrap 2) (code 4294967293, tt) → ⊥)
+-- The square modulo 2^32, or the residue itself.
+pub code-mul-wrong : RefusesBoth (holds (code-mul.Post tt) (code 4294967295, (code 4294967295, tt))) (wrap 1) (wrap 4)
+code-mul-wrong = both-differ val _ _ refl refl
+
+-- The code, or its residue, for the inverse.
+pub code-inv-wrong : RefusesBoth (holds (code-inv.Post tt) (code 4294967293, tt)) (wrap 4294967293) (wrap 2)
 unfolding powerMod powerWithin
-code-inv-wrong = ((λ p. let e : _≡_ {A = ℕ} 4294967293 2147483646 = ap val p in omega arith), (λ p. let e : _≡_ {A = ℕ} 2 2147483646 = ap val p in omega arith))
+code-inv-wrong = both-differ val _ _ refl refl
 
-pub inverse-at-wrong : (inverse-at.Post tt (1, tt) (wrap 1) (1, tt) → ⊥) × (inverse-at.Post tt (1, tt) (wrap 1431655764) (1, tt) → ⊥)
+-- Entry 1 is the inverse of 1, or that of 3.
+pub inverse-at-wrong : RefusesBoth (holds (inverse-at.Post tt) (1, tt)) (wrap 1) (wrap 1431655764)
 unfolding powerMod powerWithin
-inverse-at-wrong = ((λ p. let e : _≡_ {A = ℕ} 1 2147483646 = ap val p in omega arith), (λ p. let e : _≡_ {A = ℕ} 1431655764 2147483646 = ap val p in omega arith))
+inverse-at-wrong = both-differ val _ _ refl refl
 
-pub residue-pow-wrong : (residue-pow.Post tt (wrap 2, (10, tt)) (record { value = wrap 512; multiplications = 4 }) (wrap 2, (10, tt)) → ⊥)
-    × (residue-pow.Post tt (wrap 2, (10, tt)) (record { value = wrap 1024; multiplications = 5 }) (wrap 2, (10, tt)) → ⊥)
+-- ---- powers
+
+-- The power of 2 with the exponent 10: half of it, or one multiplication too many.
+abbrev halved : Powered
+halved = record { value = wrap 512; multiplications = 4 }
+
+abbrev overcounted : Powered
+overcounted = record { value = wrap 1024; multiplications = 5 }
+
+-- The power of the residue 2 is halved, or one multiplication too many is counted.
+pub residue-pow-wrong : RefusesBoth (holds (residue-pow.Post tt) (wrap 2, (10, tt))) halved overcounted
 unfolding powerMod powerWithin multiplications multiplicationsWithin
-residue-pow-wrong = (
-  λ p. let e : _≡_ {A = ℕ} 512 1024 = ap (λ (r : Powered). val (r .value)) p in omega arith,
-  λ p. let e : _≡_ {A = ℕ} 5 4 = ap (λ (r : Powered). r .multiplications) p in omega arith,
-)
+residue-pow-wrong = (differs (λ (r : Powered). val (r .value)) halved refl, differs (λ (r : Powered). r .multiplications) overcounted refl)
 
-pub code-pow-wrong : (code-pow.Post tt (code 4294967293, (10, tt)) (record { value = wrap 512; multiplications = 4 }) (code 4294967293, (10, tt)) → ⊥)
-    × (code-pow.Post tt (code 4294967293, (10, tt)) (record { value = wrap 1024; multiplications = 5 }) (code 4294967293, (10, tt)) → ⊥)
+-- So for the power of a code whose residue is 2.
+pub code-pow-wrong : RefusesBoth (holds (code-pow.Post tt) (code 4294967293, (10, tt))) halved overcounted
 unfolding powerMod powerWithin multiplications multiplicationsWithin
-code-pow-wrong = (
-  λ p. let e : _≡_ {A = ℕ} 512 1024 = ap (λ (r : Powered). val (r .value)) p in omega arith,
-  λ p. let e : _≡_ {A = ℕ} 5 4 = ap (λ (r : Powered). r .multiplications) p in omega arith,
-)
+code-pow-wrong = (differs (λ (r : Powered). val (r .value)) halved refl, differs (λ (r : Powered). r .multiplications) overcounted refl)

@@ -11,23 +11,67 @@ pub mod precompute;
 pub struct Code(pub u32);
 
 // A residue modulo the prime. Only a reduction turns a code into one.
+#[repr(C)]
 pub struct Residue(u32);
 
 // A power, and the number of field multiplications that were made for it.
+#[repr(C)]
 pub struct Powered {
     pub value: Residue,
     pub multiplications: u32,
 }
 
-// What the prime leaves of a number below three times the prime. Neither subtraction is a branch.
-fn left_over(number: u64) -> u32
-    requires { ⌜ number < 12884901873 ⌝ }
-    ensures { λ r. ⌜ r ≡ residue kind32 number ⌝ }
+// The greatest threshold of a sketch: how many places it has for its sums.
+pub const PLACES: usize = 32;
+
+// The bytes of a code, which are those of a residue too.
+pub const CODE_BYTES: usize = 4;
+
+// ---- numbers modulo the prime, reduced or not: what the residues' operations and the loops over sums are made of
+
+// No choice in these is a branch, and all are between numbers of 32 bits.
+pub fn below(a: u32) -> u32
+    ensures { λ r. ⌜ r ≡ residue kind32 a ⌝ }
 {
-    let p = Residue::MODULUS as u64;
-    let once = if number < p { number } else { number - p };
-    let twice = if once < p { once } else { once - p };
-    twice as u32
+    if a < Residue::MODULUS {
+        a
+    } else {
+        a - Residue::MODULUS
+    }
+}
+
+pub fn plus(a: u32, b: u32) -> u32
+    ensures { λ r. ⌜ r ≡ plus kind32 a b ⌝ }
+{
+    let x = below(a);
+    let y = below(b);
+    let room = Residue::MODULUS - y;
+    if x < room { x + y } else { x - room }
+}
+
+pub fn minus(a: u32, b: u32) -> u32
+    ensures { λ r. ⌜ r ≡ minus kind32 a b ⌝ }
+{
+    let x = below(a);
+    let y = below(b);
+    if x < y {
+        x + (Residue::MODULUS - y)
+    } else {
+        x - y
+    }
+}
+
+pub fn times(a: u32, b: u32) -> u32
+    ensures { λ r. ⌜ r ≡ times kind32 a b ⌝ }
+{
+    (((a as u64) * (b as u64)) % (Residue::MODULUS as u64)) as u32
+}
+
+// The product and a further term, reduced once: a step of Horner's rule.
+pub fn times_plus(a: u32, b: u32, c: u32) -> u32
+    ensures { λ r. ⌜ r ≡ plus kind32 (a * b) c ⌝ }
+{
+    (((a as u64) * (b as u64) + (c as u64)) % (Residue::MODULUS as u64)) as u32
 }
 
 impl Residue {
@@ -36,7 +80,7 @@ impl Residue {
     pub fn reduce(code: Code) -> Residue
         ensures { λ r. ⌜ r ≡ wrap (residue kind32 (code .0)) ⌝ }
     {
-        Residue(code.0 % Residue::MODULUS)
+        Residue(below(code.0))
     }
 
     pub fn zero() -> Residue
@@ -54,37 +98,32 @@ impl Residue {
     pub fn add(self, rhs: Residue) -> Residue
         ensures { λ r. ⌜ r ≡ wrap (plus kind32 (self .0) (rhs .0)) ⌝ }
     {
-        let sum = (self.0 as u64) + (rhs.0 as u64);
-        Residue(left_over(sum))
+        Residue(plus(self.0, rhs.0))
     }
 
     pub fn sub(self, rhs: Residue) -> Residue
         ensures { λ r. ⌜ r ≡ wrap (minus kind32 (self .0) (rhs .0)) ⌝ }
     {
-        let negative = Residue::MODULUS - rhs.0 % Residue::MODULUS;
-        let difference = (self.0 as u64) + (negative as u64);
-        Residue(left_over(difference))
+        Residue(minus(self.0, rhs.0))
     }
 
     pub fn neg(self) -> Residue
         ensures { λ r. ⌜ r ≡ wrap (negative kind32 (self .0)) ⌝ }
     {
-        Residue::zero().sub(self)
+        Residue(minus(0, self.0))
     }
 
     pub fn mul(self, rhs: Residue) -> Residue
         ensures { λ r. ⌜ r ≡ wrap (times kind32 (self .0) (rhs .0)) ⌝ }
     {
-        let product = (self.0 as u64) * (rhs.0 as u64);
-        Residue((product % (Residue::MODULUS as u64)) as u32)
+        Residue(times(self.0, rhs.0))
     }
 
-    // The product and a further term, reduced once: a step of Horner's rule.
+    // A step of Horner's rule.
     pub fn mul_add(self, rhs: Residue, term: Code) -> Residue
         ensures { λ r. ⌜ r ≡ wrap (plus kind32 (self .0 * rhs .0) (term .0)) ⌝ }
     {
-        let total = (self.0 as u64) * (rhs.0 as u64) + (term.0 as u64);
-        Residue((total % (Residue::MODULUS as u64)) as u32)
+        Residue(times_plus(self.0, rhs.0, term.0))
     }
 
     // The exponent is halved until it is 0 or 1; on the way back the power is squared, and multiplied once more where the exponent is odd.

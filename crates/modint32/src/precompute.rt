@@ -5,10 +5,11 @@ ghost use mathlib.Core.Bool.{true};
 ghost use Rattle.rules.specs.Field.{inverse, inverseAt, inversesRight};
 ghost use Rattle.modint32.specs.Answers.{val, wrap};
 use crate::Code;
+use crate::PLACES;
 use crate::Residue;
 
 // Entry i is the inverse of i + 1.
-const INVERSES: [Residue; 32] = [
+const INVERSES: [Residue; PLACES] = [
     Residue(1),
     Residue(2147483646),
     Residue(1431655764),
@@ -44,7 +45,7 @@ const INVERSES: [Residue; 32] = [
 ];
 
 // The table, which passes the test of the whole.
-fn inverses() -> [Residue; 32]
+fn inverses() -> [Residue; PLACES]
     ensures { λ r. ⌜ inversesRight kind32 val r ≡ true ⌝ }
 {
     INVERSES
@@ -54,7 +55,7 @@ fn inverses() -> [Residue; 32]
 pub fn inverse_at(i: usize) -> Residue
     ensures { λ r. ⌜ r ≡ wrap (inverseAt kind32 i) ⌝ }
 {
-    if i < 32 {
+    if i < PLACES {
         let table = inverses();
         return table[i];
     }

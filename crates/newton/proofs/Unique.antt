@@ -47,7 +47,8 @@ module _ (p : ℕ) (P : IsPrime p) where
           → List·Permᴰ (r ∷ rs) ts
       without x later =
           List·Permᴰ·trans
-          (List·Permᴰ·cons refl (later (x .0) (below-rs .1) (all-below-permuted p (x .1) below-ts .1) (omega (arith, length-permuted (x .1))) (omega arith) others))
+          (List·Permᴰ·cons refl (later (x .0) (below-rs .1) (all-below-permuted p (x .1) below-ts .1) (omega (arith, length-permuted (x .1)))
+          (omega arith) others))
           (Permᴰ·symm (x .1))
         where
           others : SameSums p (length rs) rs (x .0)

@@ -12,14 +12,17 @@ abbrev pub sumTo : (ℕ → ℕ) → ℕ → ℕ
 sumTo f zero = 0
 sumTo f (suc n) = sumTo f n + f n
 
+-- A sum is its first term and the sum of the others.
 pub sum-first : (f : ℕ → ℕ) (n : ℕ) → sumTo f (suc n) ≡ f 0 + sumTo (λ k. f (suc k)) n
 sum-first f zero = omega arith
 sum-first f (suc n) = omega (arith, sum-first f n)
 
+-- Sums of equal terms are equal.
 pub sum-same : (f g : ℕ → ℕ) → ((k : ℕ) → f k ≡ g k) → (n : ℕ) → sumTo f n ≡ sumTo g n
 sum-same f g h zero = refl
 sum-same f g h (suc n) = ap₂ _+_ (sum-same f g h n) (h n)
 
+-- What divides each term divides the sum.
 pub sum-divides : (m : ℕ) (f : ℕ → ℕ) (n : ℕ) → ((k : ℕ) → k < n → m ∣ f k) → m ∣ sumTo f n
 sum-divides m f zero h = dvd-zero m
 sum-divides m f (suc n) h = dvd-add m (sum-divides m f n (λ k l. h k (omega arith))) (h n (omega arith))
@@ -45,6 +48,7 @@ choose-over n zero l = absurd (omega arith)
 choose-over zero (suc k) l = refl
 choose-over (suc n) (suc k) l = omega (arith, choose-over n k (omega arith), choose-over n (suc k) (omega arith))
 
+-- There is one set of n among n.
 pub choose-all : (n : ℕ) → choose n n ≡ 1
 choose-all zero = refl
 choose-all (suc n) = omega (arith, choose-all n, choose-over n (suc n) (omega arith))

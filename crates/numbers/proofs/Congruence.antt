@@ -3,7 +3,8 @@
 -- Assumes nothing.
 use Prim.Native.Nat.{ℕ, zero, suc, _+_, _-_, _*_, _%_, _/_, _^_, _<_, _≤_, _∣_}
 use mathlib.Core.Path.{_≡_, sym, _∙_, ap, ap₂, subst}
-use native.Mathlib.Nat.{mod-add-div, add-mul-mod-self-left, mul-comm, pow-succ', pow-zero, add-mod, mod-lt, mod-mod, mod-add-mod, mul-sub, dvd-mul-right, mul-div-cancel'}
+use native.Mathlib.Nat.{mod-add-div, add-mul-mod-self-left, mul-comm, pow-succ', pow-zero, add-mod, mod-lt, mod-add-mod, mul-sub, dvd-mul-right}
+use native.Mathlib.Nat.{mul-div-cancel'}
 use native.Mathlib.Decide.{decLe}
 use native.Mathlib.Omega.{arith}
 
@@ -16,6 +17,7 @@ mul-mod-left a b m = sym (ap (λ (x : ℕ). x % m) split ∙ add-mul-mod-self-le
     split : a * b ≡ a % m * b + m * (a / m * b)
     split = omega (arith, ap (λ (x : ℕ). x * b) (mod-add-div a m))
 
+-- So may the second factor.
 pub mul-mod-right : (a b m : ℕ) → (a * (b % m)) % m ≡ (a * b) % m
 mul-mod-right a b m = rw (mul-comm a (b % m), mul-mod-left, mul-comm b a)
 
@@ -63,10 +65,6 @@ module _ (m : ℕ) where
   pub mul-congruent : (a a′ b b′ : ℕ) → a % m ≡ a′ % m → b % m ≡ b′ % m → (a * b) % m ≡ (a′ * b′) % m
   mul-congruent a a′ b b′ x y = sym (mul-mod a b m) ∙ ap₂ (λ (u v : ℕ). (u * v) % m) x y ∙ mul-mod a′ b′ m
 
-  -- Powers of congruent numbers are congruent.
-  pub pow-congruent : (a a′ k : ℕ) → a % m ≡ a′ % m → a ^ k % m ≡ a′ ^ k % m
-  pow-congruent a a′ k e = sym (pow-mod a k m) ∙ ap (λ (x : ℕ). x ^ k % m) e ∙ pow-mod a′ k m
-
   -- What is added on both sides may be left out.
   pub cancel-add : (d a b : ℕ) → (d + a) % m ≡ (d + b) % m → a % m ≡ b % m
   cancel-add d a b e = greater-first m a b (λ l. half a b l e) (λ l. half b a l (sym e))
@@ -81,8 +79,3 @@ module _ (m : ℕ) where
     where
       whole : (r q : ℕ) → r < m → r + m * q ≡ b → (a + (m - r)) + b ≡ a + m * suc q
       whole r q u e = omega arith
-
-  -- Differences of congruent numbers are congruent.
-  pub subtract-congruent : 0 < m → (a a′ b b′ : ℕ) → a % m ≡ a′ % m → b % m ≡ b′ % m → (a + (m - b % m)) % m ≡ (a′ + (m - b′ % m)) % m
-  subtract-congruent l a a′ b b′ x y =
-      ap (λ (z : ℕ). (a + (m - z)) % m) y ∙ add-congruent a a′ (m - b′ % m) (m - b′ % m) x (λ i. (m - b′ % m) % m)

@@ -3,7 +3,8 @@
 use Prim.Native.Nat.{ℕ, zero, suc, _+_, _-_, _*_, _/_, _<_, _≤_, _∣_}
 use mathlib.Core.Path.{_≡_, refl, sym, _∙_, subst}
 use mathlib.Core.Logic.{_⊎_, inl, inr, ⊎-swap}
-use native.Mathlib.Nat.{mul-zero, mul-one, dvd-refl, dvd-trans, dvd-mul-left, dvd-mul-right, le-of-dvd, eq-zero-of-zero-dvd, mul-div-cancel', mul-dvd-mul-left, mul-le-mul, mul-le-mul-left, mul-le-mul-right, eq-or-lt-of-le, le-of-suc-le-suc}
+use native.Mathlib.Nat.{mul-zero, mul-one, dvd-refl, dvd-trans, dvd-mul-left, dvd-mul-right, le-of-dvd, eq-zero-of-zero-dvd, mul-div-cancel'}
+use native.Mathlib.Nat.{mul-dvd-mul-left, mul-le-mul, mul-le-mul-left, mul-le-mul-right, eq-or-lt-of-le, le-of-suc-le-suc}
 use native.Mathlib.Decide.{decDvd, decLe}
 use native.Mathlib.Omega.{arith}
 use Rattle.numbers.specs.Prime.{IsPrime}

@@ -3,12 +3,14 @@
 use Prim.Native.Nat.{ℕ, zero, suc, _+_, _-_, _*_, _%_, _/_, _<_, _≤_, _∣_}
 use mathlib.Core.Path.{_≡_, sym, _∙_, ap, subst}
 use mathlib.Core.Logic.{_⊎_, inl, inr, ⊎-map}
-use native.Mathlib.Nat.{le-of-dvd, mod-add-div, mul-sub, one-mul, mod-lt, dvd-of-mod-eq-zero, mod-eq-zero-of-dvd, dvd-mul-right, dvd-mul-right-of-dvd, dvd-add-iff-left, eq-zero-or-pos}
+use native.Mathlib.Nat.{le-of-dvd, mod-add-div, mul-sub, one-mul, mod-lt, dvd-of-mod-eq-zero, mod-eq-zero-of-dvd, dvd-mul-right, dvd-mul-right-of-dvd}
+use native.Mathlib.Nat.{dvd-add-iff-left, eq-zero-or-pos}
 use native.Mathlib.Omega.{arith}
 use Rattle.numbers.specs.Prime.{IsPrime}
 use Rattle.numbers.proofs.Congruence.{mul-mod-left, divides-difference, congruent-of-divides, greater-first}
 
 module _ (p : ℕ) (P : IsPrime p) where
+  -- A prime is above 0.
   pub positive : 0 < p
   positive = omega (arith, P .above-one)
 
@@ -56,7 +58,8 @@ module _ (p : ℕ) (P : IsPrime p) where
       pick : (a % p ≡ 0) ⊎ (0 < a % p) → (p ∣ a) ⊎ (p ∣ b)
       pick (inl e) = inl (dvd-of-mod-eq-zero p e)
       pick (inr l) =
-          inr (divides-other p (a % p) b (omega (arith, mod-lt a positive)) l (mod-lt a positive) (dvd-of-mod-eq-zero p (mul-mod-left a b p ∙ mod-eq-zero-of-dvd p h)))
+          inr (divides-other p (a % p) b (omega (arith, mod-lt a positive)) l (mod-lt a positive)
+          (dvd-of-mod-eq-zero p (mul-mod-left a b p ∙ mod-eq-zero-of-dvd p h)))
 
   -- There are no zero divisors: a product that leaves 0 has a factor that leaves 0.
   pub no-zero-divisors : (a b : ℕ) → a * b % p ≡ 0 → (a % p ≡ 0) ⊎ (b % p ≡ 0)

@@ -1,6 +1,6 @@
 -- Fermat's little theorem, for any prime: by the binomial theorem, since a prime divides every binomial number but the first and the last.
 -- Assumes nothing.
-use Prim.Native.Nat.{ℕ, zero, suc, _+_, _-_, _*_, _%_, _^_, _<_, _≤_, _∣_}
+use Prim.Native.Nat.{ℕ, zero, suc, _+_, _-_, _*_, _%_, _^_, _<_, _∣_}
 use mathlib.Core.Path.{_≡_, refl, sym, _∙_, ap, ap₂, subst}
 use mathlib.Core.Logic.{_⊎_, inl, inr}
 use native.Mathlib.Nat.{mul-one, pow-zero, pow-succ', dvd-zero, dvd-mul-right, dvd-mul-right-of-dvd, zero-mul, one-le-pow, eq-zero-or-pos, mul-sub}
@@ -14,7 +14,8 @@ use Rattle.numbers.proofs.Binomial.{sumTo, sum-first, sum-divides, choo
 module _ (p : ℕ) (P : IsPrime p) where
   divides-choose : (n k : ℕ) → suc n ≡ p → k < n → p ∣ choose (suc n) (suc k)
   divides-choose n k e l =
-      pick (euclid p P (suc k) (choose (suc n) (suc k)) (subst (λ (x : ℕ). p ∣ x) (sym (choose-marked n k)) (subst (λ (x : ℕ). x ∣ suc n * choose n k) e (dvd-mul-right (suc n) (choose n k)))))
+      pick (euclid p P (suc k) (choose (suc n) (suc k)) (subst (λ (x : ℕ). p ∣ x) (sym (choose-marked n k))
+      (subst (λ (x : ℕ). x ∣ suc n * choose n k) e (dvd-mul-right (suc n) (choose n k)))))
     where
       pick : (p ∣ suc k) ⊎ (p ∣ choose (suc n) (suc k)) → p ∣ choose (suc n) (suc k)
       pick (inl h) = absurd (divides-none-below p P (suc k) (omega arith) (omega arith) h)
@@ -45,7 +46,8 @@ module _ (p : ℕ) (P : IsPrime p) where
       by-steps : (n : ℕ) → suc n ≡ p → (a : ℕ) → a ^ p % p ≡ a % p
       by-steps n e zero = subst (λ (x : ℕ). 0 ^ x % p ≡ 0 % p) e (ap (λ (z : ℕ). z % p) (pow-succ' 0 n ∙ zero-mul (0 ^ n)))
       by-steps n e (suc a) =
-          successor-power a n e ∙ ap (λ (z : ℕ). z % p) (sym (add-one (a ^ p))) ∙ add-congruent p (a ^ p) a 1 1 (by-steps n e a) refl ∙ ap (λ (z : ℕ). z % p) (add-one a)
+          successor-power a n e ∙ ap (λ (z : ℕ). z % p) (sym (add-one (a ^ p))) ∙ add-congruent p (a ^ p) a 1 1 (by-steps n e a) refl
+          ∙ ap (λ (z : ℕ). z % p) (add-one a)
 
       at : (q : ℕ) → q ≡ p → (a : ℕ) → a ^ p % p ≡ a % p
       at zero e a = absurd (omega (arith, P .above-one))

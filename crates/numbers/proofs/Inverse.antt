@@ -2,11 +2,9 @@
 -- Assumes nothing.
 use Prim.Native.Nat.{ℕ, suc, _-_, _*_, _%_, _^_, _<_, _∣_}
 use mathlib.Core.Path.{_≡_, sym, _∙_, ap}
-use native.Mathlib.Nat.{pow-succ', mod-eq-of-lt, mul-one, mod-mod, zero-mul, zero-mod}
+use native.Mathlib.Nat.{pow-succ', mod-eq-of-lt, zero-mul, zero-mod}
 use native.Mathlib.Omega.{arith}
 use Rattle.numbers.specs.Prime.{IsPrime}
-use Rattle.numbers.proofs.Congruence.{mul-mod-right}
-use Rattle.numbers.proofs.Euclid.{divides-none-below}
 use Rattle.numbers.proofs.Fermat.{fermat-one}
 
 module _ (p : ℕ) (P : IsPrime p) where
@@ -18,22 +16,9 @@ module _ (p : ℕ) (P : IsPrime p) where
       next : suc (p - 2) ≡ p - 1
       next = omega (arith, P .above-one)
 
-  -- Each number from 1 to p - 1 has that inverse.
-  pub inverse-below : (a : ℕ) → 0 < a → a < p → a * (a ^ (p - 2) % p) % p ≡ 1
-  inverse-below a l u = mul-mod-right a (a ^ (p - 2)) p ∙ inverse-is-power a (divides-none-below p P a l u)
-
   -- The power p - 2 of 0 is 0, for an odd prime: its exponent is not 0.
   pub inverse-of-zero : 2 < p → 0 ^ (p - 2) % p ≡ 0
   inverse-of-zero odd = ap (λ (x : ℕ). x % p) (ap (λ (x : ℕ). 0 ^ x) some ∙ pow-succ' 0 (p - 3) ∙ zero-mul (0 ^ (p - 3))) ∙ zero-mod p
     where
       some : p - 2 ≡ suc (p - 3)
       some = omega arith
-
-  -- Two numbers below p with which a leaves 1 are one number.
-  pub inverse-unique : (a r s : ℕ) → r < p → s < p → a * r % p ≡ 1 → a * s % p ≡ 1 → r ≡ s
-  inverse-unique a r s lr ls er es =
-      sym (mod-eq-of-lt lr) ∙ ap (λ (n : ℕ). n % p) (sym (mul-one r)) ∙ ap (λ (n : ℕ). (r * n) % p) (sym es) ∙ mul-mod-right r (a * s) p
-      ∙ ap (λ (n : ℕ). n % p) swap ∙ sym (mul-mod-right s (a * r) p) ∙ ap (λ (n : ℕ). (s * n) % p) er ∙ ap (λ (n : ℕ). n % p) (mul-one s) ∙ mod-eq-of-lt ls
-    where
-      swap : r * (a * s) ≡ s * (a * r)
-      swap = omega arith

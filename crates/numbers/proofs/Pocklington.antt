@@ -3,7 +3,8 @@
 -- Assumes nothing.
 use Prim.Native.Nat.{ℕ, suc, _+_, _-_, _*_, _%_, _/_, _^_, _<_, _≤_, _∣_}
 use mathlib.Core.Path.{_≡_, sym, _∙_, ap, subst}
-use native.Mathlib.Nat.{mod-add-div, mul-comm, mul-one, pow-succ', dvd-mul-right-of-dvd, le-of-dvd, mul-le-mul, mod-eq-zero-of-dvd, dvd-of-mod-eq-zero, mod-mod-of-dvd, mod-eq-of-lt, mod-add-mod}
+use native.Mathlib.Nat.{mod-add-div, mul-comm, mul-one, pow-succ', dvd-mul-right-of-dvd, le-of-dvd, mul-le-mul, mod-eq-zero-of-dvd, dvd-of-mod-eq-zero}
+use native.Mathlib.Nat.{mod-mod-of-dvd, mod-eq-of-lt, mod-add-mod}
 use native.Mathlib.Decide.{decDvd}
 use native.Mathlib.Omega.{arith}
 use lib.Dec.{T, eqb, eqb→eq}
@@ -77,6 +78,7 @@ module _ (n q r a c : ℕ) (Q : IsPrime q) (whole : suc (q * r) ≡ n) (leaves-o
       product-zero : (a ^ r % n + (n - 1)) * c % d ≡ 0
       product-zero = mod-eq-zero-of-dvd d (dvd-mul-right-of-dvd d (dvd-of-mod-eq-zero d factor-zero) c)
 
+  -- So the divisor d is one more than a multiple of q.
   pub divisor-of-multiple : q ∣ d - 1
   divisor-of-multiple = pick (decDvd q (d - 1))
     where

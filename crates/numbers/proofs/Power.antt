@@ -1,7 +1,7 @@
 -- The power by halving is the power, and laws of powers.
 -- Assumes nothing.
-use Prim.Native.Nat.{ℕ, zero, suc, _+_, _-_, _*_, _%_, _/_, _^_, _<_, _≤_}
-use mathlib.Core.Path.{_≡_, refl, sym, _∙_, ap, subst}
+use Prim.Native.Nat.{ℕ, zero, suc, _+_, _*_, _%_, _/_, _^_, _≤_}
+use mathlib.Core.Path.{_≡_, refl, sym, _∙_, ap}
 use mathlib.Core.Bool.{Bool, true, false, cond}
 use native.Mathlib.Nat.{mul-comm, one-mul, zero-mul, suc-mul, pow-zero, pow-suc, pow-succ', le-refl}
 use native.Mathlib.Omega.{arith}
@@ -12,9 +12,11 @@ use borrow.Author.Tests.{eqb-true, eqb-false}
 use Rattle.numbers.specs.Power.{powerWithin, powerMod}
 use Rattle.numbers.proofs.Congruence.{mul-mod, mul-mod-left, pow-mod}
 
+-- A number to the power 1 is the number.
 pub pow-one : (a : ℕ) → a ^ 1 ≡ a
 pow-one a = pow-suc a 0 ∙ ap (λ (x : ℕ). x * a) (pow-zero a) ∙ one-mul a
 
+-- Every power of 1 is 1.
 pub one-pow : (k : ℕ) → 1 ^ k ≡ 1
 one-pow zero = pow-zero 1
 one-pow (suc k) = pow-succ' 1 k ∙ one-mul (1 ^ k) ∙ one-pow k
@@ -40,7 +42,8 @@ power-even m b e {h} {s} eh es even =
 pub power-odd : (m b e : ℕ) {h s r : ℕ} → h ≡ b ^ (e / 2) % m → s ≡ h * h % m → r ≡ s * b % m → (e % 2 ≡ 0 → ⊥) → r ≡ b ^ e % m
 power-odd m b e {h} {s} {r} eh es er odd =
     er ∙ ap (λ (x : ℕ). x * b % m) (es ∙ ap (λ (x : ℕ). x * x % m) eh ∙ mul-mod (b ^ (e / 2)) (b ^ (e / 2)) m) ∙ mul-mod-left (b ^ (e / 2) * b ^ (e / 2)) b m
-    ∙ ap (λ (x : ℕ). x * b % m) (sym (pow-add b (e / 2) (e / 2))) ∙ ap (λ (x : ℕ). x % m) (sym (pow-suc b (e / 2 + e / 2))) ∙ ap (λ (x : ℕ). b ^ x % m) (omega arith)
+    ∙ ap (λ (x : ℕ). x * b % m) (sym (pow-add b (e / 2) (e / 2))) ∙ ap (λ (x : ℕ). x % m) (sym (pow-suc b (e / 2 + e / 2)))
+    ∙ ap (λ (x : ℕ). b ^ x % m) (omega arith)
 
 -- ---- the whole power
 

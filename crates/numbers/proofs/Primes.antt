@@ -9,10 +9,12 @@ use Rattle.numbers.proofs.Trial.{noDivisor, prime-by-trial}
 use Rattle.numbers.proofs.Divisors.{prime-of-large-divisors, product-divides}
 use Rattle.numbers.proofs.Pocklington.{pocklington, large-divisor}
 
+-- The number p16 is a prime.
 pub prime-16 : IsPrime p16
 unfolding noDivisor
 prime-16 = prime-by-trial p16 254 (lit< tt) (lit< tt) tt
 
+-- The number p32 is a prime.
 pub prime-32 : IsPrime p32
 unfolding noDivisor
 prime-32 = prime-by-trial p32 65534 (lit< tt) (lit< tt) tt
@@ -38,10 +40,12 @@ prime-5594472617641 = prime-of-large-divisors 5594472617641 (lit< tt) large
         (pocklington 5594472617641 15331 364912440 2 3161697676777 prime-15331 tt tt tt d D h)
         (pocklington 5594472617641 2131 2625280440 2 1933328135809 prime-2131 tt tt tt d D h))
 
+-- The number p64 is a prime.
 pub prime-64 : IsPrime p64
 unfolding powerMod powerWithin
 prime-64 = prime-of-large-divisors p64 (lit< tt) large
   where
     large : (d : ℕ) → IsPrime d → d ∣ p64 → p64 < d * d
     large d D h =
-        large-divisor 5594472617641 p64 d (lit< tt) (D .above-one) (pocklington p64 5594472617641 3297316 2 1898613474652435203 prime-5594472617641 tt tt tt d D h)
+        large-divisor 5594472617641 p64 d (lit< tt) (D .above-one)
+        (pocklington p64 5594472617641 3297316 2 1898613474652435203 prime-5594472617641 tt tt tt d D h)

@@ -3,7 +3,7 @@
 use Prim.Native.Nat.{ℕ, zero, suc, _*_, _%_, _/_, _<_, _≤_, _∣_}
 use mathlib.Core.Path.{_≡_, refl, sym, _∙_, subst}
 use mathlib.Core.Logic.{_⊎_, inl, inr}
-use mathlib.Core.Bool.{Bool, true, false, not, _&&_}
+use mathlib.Core.Bool.{Bool, true, not, _&&_}
 use native.Mathlib.Nat.{le-suc-iff, mod-eq-zero-of-dvd, eq-zero-of-zero-dvd, mul-div-cancel', dvd-mul-left, mul-le-mul, mul-one, mul-zero}
 use native.Mathlib.Decide.{decLe}
 use native.Mathlib.Omega.{arith}
@@ -29,7 +29,8 @@ none-divides p (suc k) t d l u h =
     split : (d ≤ suc k → ⊥) → (d ≤ suc k) ⊎ (d ≡ suc (suc k)) → ⊥
     split lower (inl v) = lower v
     split lower (inr e) =
-        not-zero (p % suc (suc k)) (both-first (not (eqb (p % suc (suc k)) 0)) (noDivisor p k) t) (mod-eq-zero-of-dvd (suc (suc k)) (subst (λ (x : ℕ). x ∣ p) e h))
+        not-zero (p % suc (suc k)) (both-first (not (eqb (p % suc (suc k)) 0)) (noDivisor p k) t)
+        (mod-eq-zero-of-dvd (suc (suc k)) (subst (λ (x : ℕ). x ∣ p) e h))
 
 -- A number with no divisor up to k + 1 that is below the square of k + 2 is a prime.
 pub prime-by-trial : (p k : ℕ) → 1 < p → p < suc (suc k) * suc (suc k) → T (noDivisor p k) → IsPrime p

@@ -1,6 +1,7 @@
 -- What is proved of the calls beside their contracts, a file for each matter.
-pub mod Chain
+pub mod Struct
+pub mod InPlace
 pub mod Determined
 pub mod Idle
 pub mod Wrong
-pub mod Lists
+pub mod Promise

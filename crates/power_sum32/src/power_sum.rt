@@ -1,11 +1,17 @@
-// The sketch and its calls, by value.
+// The sketch: its parts, and how it is made, tested and changed.
 ghost use mathlib.Core.Path.{_≡_};
-ghost use mathlib.Core.Bool.{true, cond};
+ghost use mathlib.Core.Bool.{true};
+ghost use mathlib.Core.List.{map};
+ghost use Rattle.modint32.specs.Answers.{val, wrap};
 ghost use Rattle.rules.specs.Kind.{kind32};
-ghost use Rattle.rules.specs.Sketch.{placeFits, lastFits, inRange, lastWithout, insert, remove};
-ghost use Rattle.power_sum32.specs.Answers.{view, built, lastOf, lastTo, wellFormedOf, answered, newOf, insertOf, removeOf};
+ghost use Rattle.rules.specs.Sketch.{lastFits, inRange, lastWithout, placed};
+ghost use Rattle.rules.specs.Sums.{allBelow, movedByPowers};
+ghost use Rattle.power_sum32.specs.Answers.{view, lastOf, lastTo, wellFormedOf, answered, empty, newOf, insertOf, removeOf};
 use modint32::Code;
+use modint32::PLACES;
 use modint32::Residue;
+use sums32::places;
+use sums32::powers;
 
 // The last code that was inserted, or none.
 pub enum Last {
@@ -16,7 +22,7 @@ pub enum Last {
 // The sums stand in the first `threshold` places; the further places hold 0.
 pub struct PowerSumQuackU32 {
     pub threshold: usize,
-    pub sums: [Residue; 32],
+    pub sums: [Residue; PLACES],
     pub count: u32,
     pub last: Last,
 }
@@ -27,31 +33,13 @@ pub struct Answer {
     pub sketch: PowerSumQuackU32,
 }
 
-// How many numbers were written, or the number of a refusal and 0.
-pub struct Number {
-    pub refusal: u32,
-    pub value: usize,
-}
-
 fn in_range(threshold: usize) -> bool
     ensures { λ r. ⌜ r ≡ inRange kind32 threshold ⌝ }
 {
     if threshold < 1 {
         return false;
     }
-    threshold <= 32
-}
-
-// What a place adds to the misfits: nothing where it fits. Both comparisons are values, so no place is a branch.
-fn misfit(threshold: usize, k: usize, s: Residue) -> u32
-    ensures { λ r. ⌜ r ≡ cond (placeFits kind32 threshold k (s .0)) 0 1 ⌝ }
-{
-    let most = if k < threshold {
-        Residue::MODULUS - 1
-    } else {
-        0
-    };
-    if s.value() <= most { 0 } else { 1 }
+    threshold <= PLACES
 }
 
 fn last_fits(last: Last) -> bool
@@ -76,38 +64,81 @@ fn last_without(last: Last, code: Code) -> Last
     }
 }
 
-fn answer_with(refusal: u32, sketch: PowerSumQuackU32) -> Answer
-    ensures { λ r. ⌜ r ≡ answered refusal sketch ⌝ }
+// The residues of numbers.
+fn residues(numbers: [u32; PLACES]) -> [Residue; PLACES]
+    requires { ⌜ allBelow kind32 numbers ≡ true ⌝ }
+    ensures { λ r. ⌜ r ≡ map wrap numbers ⌝ }
 {
-    Answer { refusal, sketch }
+    let mut residues = [Residue::zero(); PLACES];
+    for k in 0..PLACES {
+        residues[k] = Residue::reduce(Code(numbers[k]));
+    }
+    residues
+}
+
+// A sketch whose places hold these numbers.
+pub(crate) fn accepted(threshold: usize, sums: [u32; PLACES], count: u32, last: Last) -> Answer
+    requires { ⌜ allBelow kind32 sums ≡ true ⌝ }
+    ensures { λ r. ⌜ r ≡ answered 0 (record { threshold = threshold; sums = map wrap sums; count = count; last = last }) ⌝ }
+{
+    let sums = residues(sums);
+    Answer {
+        refusal: 0,
+        sketch: PowerSumQuackU32 {
+            threshold,
+            sums,
+            count,
+            last,
+        },
+    }
+}
+
+// A refusal where no sketch was given.
+pub(crate) fn no_sketch(refusal: u32) -> Answer
+    ensures { λ r. ⌜ r ≡ answered refusal empty ⌝ }
+{
+    let sums = [Residue::zero(); PLACES];
+    Answer {
+        refusal,
+        sketch: PowerSumQuackU32 {
+            threshold: 0,
+            sums,
+            count: 0,
+            last: Last::Nothing,
+        },
+    }
 }
 
 impl PowerSumQuackU32 {
+    // The numbers of its places.
+    pub(crate) fn numbers(self) -> [u32; PLACES]
+        ensures { λ r. ⌜ r ≡ map val (self .sums) ⌝ }
+    {
+        let places = self.sums;
+        let mut numbers = [0u32; PLACES];
+        for k in 0..PLACES {
+            let here = places[k];
+            numbers[k] = here.value();
+        }
+        numbers
+    }
+
+    pub(crate) fn refused(self, refusal: u32) -> Answer
+        ensures { λ r. ⌜ r ≡ answered refusal self ⌝ }
+    {
+        Answer {
+            refusal,
+            sketch: self,
+        }
+    }
+
     pub fn new(threshold: usize) -> Answer
         ensures { λ r. ⌜ r ≡ newOf threshold ⌝ }
     {
-        let sums = [Residue::zero(); 32];
-        if in_range(threshold) {
-            answer_with(
-                0,
-                PowerSumQuackU32 {
-                    threshold,
-                    sums,
-                    count: 0,
-                    last: Last::Nothing,
-                },
-            )
-        } else {
-            answer_with(
-                1,
-                PowerSumQuackU32 {
-                    threshold: 0,
-                    sums,
-                    count: 0,
-                    last: Last::Nothing,
-                },
-            )
+        if !in_range(threshold) {
+            return no_sketch(1);
         }
+        accepted(threshold, [0u32; PLACES], 0, Last::Nothing)
     }
 
     pub fn threshold(self) -> usize
@@ -135,107 +166,50 @@ impl PowerSumQuackU32 {
         if !in_range(threshold) {
             return false;
         }
-        let sums = self.sums;
-        let mut misfits = 0;
-        for k in 0..32 {
-            let here = sums[k];
-            misfits += misfit(threshold, k, here);
+        let sums = self.numbers();
+        if !places::places_fit(&sums, threshold) {
+            return false;
         }
         let last = self.last;
-        if misfits == 0 { last_fits(last) } else { false }
+        last_fits(last)
     }
 
-    // The core of `insert`: what it makes of a well-formed sketch.
-    fn inserted(self, code: Code) -> PowerSumQuackU32
+    // The places of a well-formed sketch once each sum has moved by its power of a residue.
+    fn shifted(self, x: Residue, down: bool) -> [u32; PLACES]
         requires { ⌜ wellFormedOf self ≡ true ⌝ }
-        ensures { λ r. ⌜ r ≡ built (insert kind32 (view self) (code .0)) ⌝ }
+        ensures { λ r. ⌜ r ≡ placed kind32 (movedByPowers kind32 down (x .0) (view self .sums)) ⌝ }
     {
-        let x = Residue::reduce(code);
         let threshold = self.threshold;
-        let mut sums = self.sums;
-        let first = sums[0];
-        sums[0] = first.add(x);
-        let square = x.mul(x);
-        let mut power = x;
-        let mut next = square;
-        let mut k = 1;
-        while 1 < threshold - k {
-            let sum = sums[k];
-            sums[k] = sum.add(next);
-            power = power.mul(square);
-            let after = sums[k + 1];
-            sums[k + 1] = after.add(power);
-            next = next.mul(square);
-            k += 2;
-        }
-        if k < threshold {
-            let end = sums[k];
-            sums[k] = end.add(next);
-        }
-        let count = std::num::wrapping_add_u32(self.count, 1);
-        PowerSumQuackU32 {
-            threshold,
-            sums,
-            count,
-            last: Last::Code(x),
-        }
+        let mut sums = self.numbers();
+        powers::shift_by_powers(&mut sums[0..threshold], x, down);
+        sums
     }
 
     pub fn insert(self, code: Code) -> Answer
         ensures { λ r. ⌜ r ≡ insertOf self code ⌝ }
     {
-        if self.well_formed() {
-            answer_with(0, self.inserted(code))
-        } else {
-            answer_with(12, self)
+        if !self.well_formed() {
+            return self.refused(12);
         }
-    }
-
-    // The core of `remove`.
-    fn removed(self, code: Code) -> PowerSumQuackU32
-        requires { ⌜ wellFormedOf self ≡ true ⌝ }
-        ensures { λ r. ⌜ r ≡ built (remove kind32 (view self) (code .0)) ⌝ }
-    {
         let x = Residue::reduce(code);
-        let threshold = self.threshold;
-        let mut sums = self.sums;
-        let first = sums[0];
-        sums[0] = first.sub(x);
-        let square = x.mul(x);
-        let mut power = x;
-        let mut next = square;
-        let mut k = 1;
-        while 1 < threshold - k {
-            let sum = sums[k];
-            sums[k] = sum.sub(next);
-            power = power.mul(square);
-            let after = sums[k + 1];
-            sums[k + 1] = after.sub(power);
-            next = next.mul(square);
-            k += 2;
-        }
-        if k < threshold {
-            let end = sums[k];
-            sums[k] = end.sub(next);
-        }
-        let count = std::num::wrapping_sub_u32(self.count, 1);
-        let stored = self.last;
-        let last = last_without(stored, code);
-        PowerSumQuackU32 {
-            threshold,
-            sums,
-            count,
-            last,
-        }
+        let count = std::num::wrapping_add_u32(self.count, 1);
+        accepted(self.threshold, self.shifted(x, false), count, Last::Code(x))
     }
 
     pub fn remove(self, code: Code) -> Answer
         ensures { λ r. ⌜ r ≡ removeOf self code ⌝ }
     {
-        if self.well_formed() {
-            answer_with(0, self.removed(code))
-        } else {
-            answer_with(12, self)
+        if !self.well_formed() {
+            return self.refused(12);
         }
+        let x = Residue::reduce(code);
+        let count = std::num::wrapping_sub_u32(self.count, 1);
+        let last = self.last;
+        accepted(
+            self.threshold,
+            self.shifted(x, true),
+            count,
+            last_without(last, code),
+        )
     }
 }

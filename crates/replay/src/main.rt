@@ -1,13 +1,8 @@
 // Replays a recorded list of operations, read from standard input, on the calls of `exports32`, and writes how many
 // operations there were and how many were not answered as recorded.
-mod agree;
-mod field;
-mod line;
 mod reading;
-mod sketch;
-mod slots;
-mod widths;
 
+use operations::slots::PLACES;
 use reading::Reading;
 
 struct Turn {
@@ -15,7 +10,7 @@ struct Turn {
     reading: Reading,
 }
 
-fn read_some(line: &mut [u32; 512], slots: &mut [u32; 108], reading: Reading) -> Turn {
+fn read_some(line: &mut [u32; 512], slots: &mut [u32; PLACES], reading: Reading) -> Turn {
     let mut buffer = io::large_buffer();
     let got = libc::read(0, &mut buffer);
     if got <= 0 {
@@ -34,7 +29,7 @@ fn read_some(line: &mut [u32; 512], slots: &mut [u32; 108], reading: Reading) ->
 
 // A proved loop has to end, and nothing says that the input does: the turns are counted down from a number that no run
 // uses up.
-fn read_all(line: &mut [u32; 512], slots: &mut [u32; 108]) -> Reading {
+fn read_all(line: &mut [u32; 512], slots: &mut [u32; PLACES]) -> Reading {
     let mut turns = u64::MAX;
     let mut reading = reading::start();
     let mut more = true;
@@ -50,7 +45,7 @@ fn read_all(line: &mut [u32; 512], slots: &mut [u32; 108]) -> Reading {
 
 fn main() {
     let mut line = [0u32; 512];
-    let mut slots = [0u32; 108];
+    let mut slots = [0u32; PLACES];
     let read = read_all(&mut line, &mut slots);
     let ended = reading::finish(&mut line, &mut slots, read);
     io::print_decimal(1, ended.operations);

@@ -1,5 +1,6 @@
 // The list read byte by byte: the numbers of a line stand in an array until the line ends, and the line is run then.
-use crate::line;
+use operations::line;
+use operations::slots::PLACES;
 
 // How many numbers of the line stand in the array, the number that is being read, whether it has a digit, whether the
 // line can be read so far, and what was counted up to this line.
@@ -72,14 +73,14 @@ fn end_number(numbers: &mut [u32; 512], mut reading: Reading) -> Reading {
     reading
 }
 
-fn agrees(numbers: &[u32; 512], slots: &mut [u32; 108], reading: Reading) -> bool {
+fn agrees(numbers: &[u32; 512], slots: &mut [u32; PLACES], reading: Reading) -> bool {
     if !reading.readable {
         return false;
     }
     line::run_line(numbers, reading.count, slots)
 }
 
-fn end_line(numbers: &mut [u32; 512], slots: &mut [u32; 108], reading: Reading) -> Reading {
+fn end_line(numbers: &mut [u32; 512], slots: &mut [u32; PLACES], reading: Reading) -> Reading {
     let whole = end_number(numbers, reading);
     let operations = std::num::wrapping_add_u64(reading.operations, 1);
     if agrees(numbers, slots, whole) {
@@ -92,7 +93,12 @@ fn end_line(numbers: &mut [u32; 512], slots: &mut [u32; 108], reading: Reading) 
     }
 }
 
-fn step(numbers: &mut [u32; 512], slots: &mut [u32; 108], reading: Reading, byte: u8) -> Reading {
+fn step(
+    numbers: &mut [u32; 512],
+    slots: &mut [u32; PLACES],
+    reading: Reading,
+    byte: u8,
+) -> Reading {
     if byte == b'\n' {
         return end_line(numbers, slots, reading);
     }
@@ -104,7 +110,7 @@ fn step(numbers: &mut [u32; 512], slots: &mut [u32; 108], reading: Reading, byte
 
 pub(crate) fn feed(
     numbers: &mut [u32; 512],
-    slots: &mut [u32; 108],
+    slots: &mut [u32; PLACES],
     reading: Reading,
     bytes: &[u8],
 ) -> Reading {
@@ -128,7 +134,7 @@ fn is_fresh(reading: Reading) -> bool {
 // The end of the input ends a line that has begun.
 pub(crate) fn finish(
     numbers: &mut [u32; 512],
-    slots: &mut [u32; 108],
+    slots: &mut [u32; PLACES],
     reading: Reading,
 ) -> Reading {
     if is_fresh(reading) {

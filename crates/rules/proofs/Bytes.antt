@@ -1,59 +1,30 @@
 -- The code that moves bytes: numbers written over the front of a lent list, one after the other, and numbers read into places, at every width of a number;
 -- and what writing and reading come to, refusal by refusal. What a loop keeps is a record, so that what it speaks of is found at each use.
 -- Assumes nothing.
-use Prim.Native.Nat.{ℕ, zero, suc, _+_, _-_, _*_, _/_, _%_, _≤_, _<_, zero-le, min}
+use Prim.Native.Nat.{ℕ, suc, _+_, _-_, _*_, _≤_, _<_, zero-le, min}
 use mathlib.Core.Path.{_≡_, refl, sym, _∙_, ap}
 use mathlib.Core.Bool.{Bool, true, false}
-use mathlib.Core.List.{List, [], _∷_, _++_, map, append-assoc, append-nil}
-use native.Mathlib.Nat.{zero-mul, mul-le-mul-right, mod-eq-of-lt, sub-zero}
+use mathlib.Core.List.{List, [], _++_, append-assoc, append-nil}
+use native.Mathlib.Nat.{zero-mul, mul-le-mul-right, mod-eq-of-lt}
 use native.Mathlib.Numerals.{add-one}
 use native.Mathlib.Omega.{arith}
-use lib.Dec.{ltb}
-use lib.ListN.{length, getD, take, drop, set, replicate, length-append, length-drop}
-use lib.Seq.{take-all, take-suc, drop-cons, drop-drop, take-at, drop-at, set-at, append-snoc, length-take-le, drop-length}
-use borrow.Author.Tests.{le-leb, lt-leb}
+use lib.Dec.{leb, ltb}
+use lib.ListN.{length, getD, take, drop, length-append, length-drop}
+use lib.Seq.{take-all, take-suc, drop-drop, take-at, drop-at, drop-length}
+use borrow.Author.Tests.{le-leb, lt-leb, leb-true}
 use borrow.Rule.Slice.PartMut.{putMid}
 use Rattle.numbers.specs.Table.{every}
-use Rattle.rules.specs.Kind.{Kind}
+use Rattle.rules.specs.Kind.{Kind, countBytes}
 use Rattle.rules.specs.Field.{residue}
-use Rattle.rules.specs.Sketch.{Sketch, code}
-use Rattle.rules.specs.Packet.{bytes, number, allBytes, sumsAt, packetLength, packet, sumsIn, sumsOf, sketchIn}
-use Rattle.rules.specs.Calls.{refused, given, packed, writeWithHint, write, read}
+use Rattle.rules.specs.Sketch.{Sketch, inRange}
+use Rattle.rules.specs.Packet.{bytes, allBytes, sumsAt, packetLength, packet, sumsIn, sumsOf, sketchIn}
+use Rattle.rules.specs.Sums.{allBelow}
+use Rattle.rules.specs.Calls.{Outcome, refused, given, unless, refusalOf, fitting, packed, writeWithHint, read, within, readFor}
 use Rattle.rules.proofs.Each.{every-below, at-below}
-use Rattle.rules.proofs.Packet.{bytes-length, all-bytes-append}
+use Rattle.rules.proofs.Packet.{bytes-length, all-bytes-append, read-few}
+use Rattle.rules.proofs.WellFormed.{in-range-parts}
 
 -- ---- four bytes
-
--- The first of several bytes.
-number-first : (bs : List ℕ) (at w : ℕ) → at < length bs → number (take (suc w) (drop at bs)) ≡ getD bs at 0 + 256 * number (take w (drop (suc at) bs))
-unfolding number
-number-first bs at w h = rw (drop-cons bs at 0)
-
--- The number that four bytes from a place on say.
-pub number-of-four : (bs : List ℕ) (at : ℕ) → at + 4 ≤ length bs
-    → number (take 4 (drop at bs)) ≡ getD bs at 0 + 256 * getD bs (at + 1) 0 + 65536 * getD bs (at + 2) 0 + 16777216 * getD bs (at + 3) 0
-unfolding number
-number-of-four bs at h =
-    let one : suc at ≡ at + 1 = omega arith in
-    let two : suc (at + 1) ≡ at + 2 = omega arith in
-    let three : suc (at + 2) ≡ at + 3 = omega arith in
-    let first = rw one at (number-first bs at 3 (omega arith)) in
-    let second = rw two at (number-first bs (at + 1) 2 (omega arith)) in
-    let third = rw three at (number-first bs (at + 2) 1 (omega arith)) in
-    omega (arith, first, second, third, number-first bs (at + 3) 0 (omega arith))
-
--- Four stores at the front of a list put a number there.
-pub bytes-of-four : (bs : List ℕ) (x : ℕ) → 4 ≤ length bs
-    → set (set (set (set bs 0 (x % 256)) 1 (x / 256 % 256)) 2 (x / 65536 % 256)) 3 (x / 16777216 % 256) ≡ bytes 4 x ++ drop 4 bs
-unfolding bytes
-bytes-of-four [] x h = absurd (omega arith)
-bytes-of-four (a ∷ []) x h = absurd (omega arith)
-bytes-of-four (a ∷ b ∷ []) x h = absurd (omega arith)
-bytes-of-four (a ∷ b ∷ c ∷ []) x h = absurd (omega arith)
-bytes-of-four (a ∷ b ∷ c ∷ d ∷ bs) x h =
-    let two : x / 65536 ≡ x / 256 / 256 = omega arith in
-    let three : x / 16777216 ≡ x / 256 / 256 / 256 = omega arith in
-    rw (two, three)
 
 -- ---- writing over the front of a list
 
@@ -86,18 +57,31 @@ front-more {a} {n} {p} {ys} {out₀} {out} b f l room e =
       is = rw (e, z, append-nil, w, t, d, drop-drop, append-assoc);
     }
 
--- The packet of a sketch stands at the front once count, last code and m sums are written.
-pub front-packet : (K : Kind) (s : Sketch) (x m : ℕ) {out₀ out : List ℕ}
-    → Front (packetLength K m) ((bytes 4 (s .count) ++ bytes (K .codeBytes) x) ++ allBytes (K .codeBytes) (take m (s .sums))) out₀ out
-    → out ≡ packet K s x m ++ drop (packetLength K m) out₀
+-- A part from a on is lent, and b is written over the whole of it.
+pub front-part : {a n m : ℕ} {p ys out₀ out : List ℕ} (b : List ℕ) → Front a p out₀ out → length b ≡ n → m ≡ n → a + n ≤ length out₀ → ys ≡ b
+    → Front (a + n) (p ++ b) out₀ (putMid a m out ys)
+front-part {a} {n} {m} {p} {ys} {out₀} {out} b f l em room e =
+    let t : take a out ≡ p = ap (λ (z : List ℕ). take a z) (f .is) ∙ take-at p (drop a out₀) a (f .size) in
+    let d : drop a out ≡ drop a out₀ = ap (λ (z : List ℕ). drop a z) (f .is) ∙ drop-at p (drop a out₀) a (f .size) in
+    record {
+      size = omega (arith, length-append p b, f .size);
+      room = room;
+      is = rw (e, em, t, d, drop-drop, append-assoc);
+    }
+
+-- A packet stands at the front once count, last code and sums are written.
+pub front-packet : (K : Kind) (count x : ℕ) (sums : List ℕ) {out₀ out : List ℕ}
+    → Front (packetLength K (length sums)) ((bytes countBytes count ++ bytes (K .codeBytes) x) ++ allBytes (K .codeBytes) sums) out₀ out
+    → out ≡ packet K count x sums ++ drop (packetLength K (length sums)) out₀
 unfolding packet
-front-packet K s x m {out₀} f =
-    f .is ∙ ap (λ (l : List ℕ). l ++ drop (packetLength K m) out₀) (append-assoc (bytes 4 (s .count)) (bytes (K .codeBytes) x) (allBytes (K .codeBytes) (take m (s .sums))))
+front-packet K count x sums {out₀} f =
+    f .is ∙ ap (λ (l : List ℕ). l ++ drop (packetLength K (length sums)) out₀)
+    (append-assoc (bytes countBytes count) (bytes (K .codeBytes) x) (allBytes (K .codeBytes) sums))
 
 -- ---- numbers written one after the other
 
 -- A place before n and its w bytes lie within n * w bytes.
-place-within : (w k n : ℕ) → k < n → k * w + w ≤ n * w
+pub place-within : (w k n : ℕ) → k < n → k * w + w ≤ n * w
 place-within w k n h =
     let e : suc k * w ≡ k * w + w = omega arith in
     omega (arith, mul-le-mul-right {m = suc k} {n = n} w h)
@@ -106,49 +90,43 @@ one-more : (w : ℕ) (xs : List ℕ) (k : ℕ) → k < length xs → allBytes w 
 unfolding allBytes
 one-more w xs k h = rw (add-one, take-suc xs k 0, all-bytes-append, append-nil)
 
--- After k of n numbers, their bytes are written over the front.
-pub record Putting (w n : ℕ) (xs out₀ out : List ℕ) (k : ℕ) : Type 0 where
-  pub within : k ≤ n
-  pub enough : n ≤ length xs
-  pub space : n * w ≤ length out₀
+-- After k numbers, their bytes are written over the front.
+pub record Putting (w : ℕ) (xs out₀ out : List ℕ) (k : ℕ) : Type 0 where
+  pub within : k ≤ length xs
+  pub space : length xs * w ≤ length out₀
   pub long : length out ≡ length out₀
   pub so-far : Front (k * w) (allBytes w (take k xs)) out₀ out
 
-module _ {w n : ℕ} {xs out₀ : List ℕ} where
+module _ {w : ℕ} {xs out₀ : List ℕ} where
   -- Before the first, the list is as it was.
-  pub putting-start : n ≤ length xs → n * w ≤ length out₀ → Putting w n xs out₀ out₀ 0
+  pub putting-start : length xs * w ≤ length out₀ → Putting w xs out₀ out₀ 0
   unfolding allBytes
-  putting-start enough space = record {
-    within = zero-le;
-    enough = enough;
-    space = space;
-    long = refl;
-    so-far = rw zero-mul (record { size = refl; room = zero-le; is = refl });
-  }
+  putting-start space = record { within = zero-le; space = space; long = refl; so-far = rw zero-mul (record { size = refl; room = zero-le; is = refl }) }
 
-  module _ {out : List ℕ} {k : ℕ} (i : Putting w n xs out₀ out k) where
-    -- The next number has its place in the part that is lent.
-    pub putting-room : k < n → k * w + w ≤ length out
-    putting-room h = omega (arith, place-within w k n h, i .space, i .long)
+  module _ {out : List ℕ} {k : ℕ} (i : Putting w xs out₀ out k) where
+    -- The next number has its place.
+    pub putting-room : k < length xs → k * w + w ≤ length out
+    putting-room h = omega (arith, place-within w k (length xs) h, i .space, i .long)
 
-    -- Its bytes are written over the front of that part.
-    pub putting-turn : {x : ℕ} {ys : List ℕ} → k < n → x ≡ getD xs k 0 → ys ≡ bytes w x ++ drop w (take (length out - k * w) (drop (k * w) out))
-        → Putting w n xs out₀ (putMid (k * w) (length out - k * w) out ys) (k + 1)
-    putting-turn {x} h e put =
+    -- Its bytes are written over that part.
+    pub putting-turn : {x v m : ℕ} {ys : List ℕ} → k < length xs → x ≡ getD xs k 0 → v ≡ w → m ≡ w → ys ≡ bytes v x
+        → Putting w xs out₀ (putMid (k * w) m out ys) (k + 1)
+    putting-turn {x} h e ev em put =
         let one : k * w + w ≡ (k + 1) * w = omega arith in
-        let more : k < length xs = omega (arith, i .enough) in
-        let next = front-more (bytes w x) (i .so-far) (bytes-length w x) (omega (arith, place-within w k n h, i .space)) put in
+        let next = front-part (bytes w x) (i .so-far) (bytes-length w x) em (omega (arith, place-within w k (length xs) h, i .space)) (put ∙ rw ev) in
         record {
           within = omega arith;
-          enough = i .enough;
           space = i .space;
           long = front-length next;
-          so-far = rw (← one, one-more w xs k more, ← e) next;
+          so-far = rw (← one, one-more w xs k h, ← e) next;
         }
 
-    -- After the last, the bytes of all n stand at the front, and what is behind them is as it was.
-    pub putting-done : n ≤ k → out ≡ allBytes w (take n xs) ++ drop (n * w) out₀
-    putting-done h = let e : k ≡ n = omega (arith, i .within) in rw e at (i .so-far .is)
+    -- After the last, the bytes of all stand at the front, and what is behind them is as it was.
+    pub putting-done : length xs ≤ k → out ≡ allBytes w xs ++ drop (length xs * w) out₀
+    putting-done h =
+        let e : k ≡ length xs = omega (arith, i .within) in
+        let all : take k xs ≡ xs = take-all k xs h in
+        (rw all at (i .so-far .is)) ∙ ap (λ (n : ℕ). allBytes w xs ++ drop (n * w) out₀) e
 
 -- ---- places filled one after the other
 
@@ -156,100 +134,110 @@ module _ {w n : ℕ} {xs out₀ : List ℕ} where
 pub own-residue : (K : Kind) (l : List ℕ) → every (λ (k s : ℕ). ltb s (K .modulus)) 0 l ≡ true → (k : ℕ) → k < length l → residue K (getD l k 0) ≡ getD l k 0
 own-residue K l t k h = mod-eq-of-lt (at-below (K .modulus) l (every-below (K .modulus) 0 l t) k h)
 
--- After k numbers of l, the first k of m places hold them, and the others hold 0.
-pub record Filling {A : Type 0} (wrap : ℕ → A) (m : ℕ) (l : List ℕ) (places : List A) (k : ℕ) : Type 0 where
-  pub within : k ≤ length l
-  pub space : length l ≤ m
-  pub so-far : places ≡ map wrap (take k l ++ replicate (m - k) 0)
-
-map-zeros : {A : Type 0} (wrap : ℕ → A) (m : ℕ) → replicate m (wrap 0) ≡ map wrap (replicate m 0)
-map-zeros wrap zero = refl
-map-zeros {A} wrap (suc m) = ap (λ (t : List A). wrap 0 ∷ t) (map-zeros wrap m)
-
-set-map : {A : Type 0} (wrap : ℕ → A) (l : List ℕ) (i x : ℕ) → set (map wrap l) i (wrap x) ≡ map wrap (set l i x)
-set-map wrap [] i x = refl
-set-map wrap (y ∷ l) zero x = refl
-set-map {A} wrap (y ∷ l) (suc i) x = ap (λ (t : List A). wrap y ∷ t) (set-map wrap l i x)
-
-module _ {A : Type 0} {wrap : ℕ → A} {m : ℕ} {l : List ℕ} where
-  -- Before the first, every place holds 0.
-  pub filling-start : length l ≤ m → Filling wrap m l (replicate m (wrap 0)) 0
-  filling-start h = record { within = zero-le; space = h; so-far = rw sub-zero (map-zeros wrap m) }
-
-  -- The next number goes into the next place.
-  pub filling-turn : {places : List A} {k : ℕ} → Filling wrap m l places k → k < length l → {v : A} → v ≡ wrap (getD l k 0) → Filling wrap m l (set places k v) (k + 1)
-  filling-turn {places} {k} i h e =
-      let r : m - k ≡ suc (m - suc k) = omega (arith, i .space) in
-      let s : length (take k l) ≡ k = length-take-le k l (i .within) in
-      let step : set (take k l ++ replicate (m - k) 0) k (getD l k 0) ≡ take (suc k) l ++ replicate (m - suc k) 0 =
-      rw (r, set-at (take k l) 0 (replicate (m - suc k) 0) (getD l k 0) k s, take-suc l k 0, append-snoc) in
-      record { within = omega arith; space = i .space; so-far = rw (i .so-far, e, add-one) (set-map wrap (take k l ++ replicate (m - k) 0) k (getD l k 0) ∙ ap (map wrap) step) }
-
-  -- After the last, the places are those of the whole list.
-  pub filling-done : {places : List A} {k : ℕ} → Filling wrap m l places k → length l ≤ k → places ≡ map wrap (l ++ replicate (m - length l) 0)
-  filling-done {places} {k} i h =
-      let e : k ≡ length l = omega (arith, i .within) in
-      let t : take k l ≡ l = take-all k l h in
-      rw (i .so-far, t, e)
-
 -- ---- what writing comes to, refusal by refusal
 
+-- A buffer that is too short.
+pub fitting-short : (l : List ℕ) {size room : ℕ} → length l ≡ size → room < size → fitting l room ≡ refused 5
+fitting-short l {size} {room} e h = rw (e, lt-leb size room h)
+
+-- Otherwise the list.
+pub fitting-given : (l : List ℕ) {size room : ℕ} → length l ≡ size → size ≤ room → fitting l room ≡ given l
+fitting-given l {size} {room} e h = rw (e, le-leb size room h)
+
 module _ (K : Kind) (s : Sketch) where
-  -- A buffer that is too short.
-  pub packed-short : (x m room : ℕ) → room < packetLength K m → packed K s (code x) m room ≡ refused 5
-  packed-short x m room l = rw (lt-leb (packetLength K m) room l)
-
-  -- Otherwise the packet.
-  pub packed-given : (x m room : ℕ) → packetLength K m ≤ room → packed K s (code x) m room ≡ given (packet K s x m)
-  packed-given x m room l = rw (le-leb (packetLength K m) room l)
-
-  -- A sketch that is not well formed.
-  pub write-malformed : {ok : Bool} (room : ℕ) → ok ≡ false → write K ok s room ≡ refused 12
-  unfolding write
-  write-malformed room e = rw e
-
-  -- The same with a hint.
+  -- A sketch that is not well formed is not written.
   pub hint-malformed : {ok : Bool} (h room : ℕ) → ok ≡ false → writeWithHint K ok s h room ≡ refused 12
   unfolding writeWithHint
   hint-malformed h room e = rw e
 
-  -- Otherwise every sum is packed.
-  pub write-packed : {ok : Bool} (room : ℕ) → ok ≡ true → write K ok s room ≡ packed K s (s .last) (s .threshold) room
-  unfolding write
-  write-packed room e = rw e
-
-  -- With a hint, as many as the smaller of threshold and hint.
+  -- Otherwise as many sums are packed as the smaller of threshold and hint.
   pub hint-packed : {ok : Bool} (h room m : ℕ) → ok ≡ true → m ≡ min (s .threshold) h → writeWithHint K ok s h room ≡ packed K s (s .last) m room
   unfolding writeWithHint
   hint-packed h room m e q = rw (e, q)
 
 -- ---- what reading comes to
 
-module _ (K : Kind) (bs : List ℕ) where
+-- A number other than 0 is that of a refusal.
+pub refused-by : {A : Type 0} (o : Outcome A) {n : ℕ} → n ≡ refusalOf o → (n ≡ 0 → ⊥) → o ≡ refused n
+refused-by (refused m) e h = ap refused (sym e)
+refused-by (given a) e h = absurd (h e)
+
+module _ (K : Kind) (bs : List ℕ) (places : ℕ) where
   -- Not the bytes of a count and a last code.
-  pub read-short : length bs < sumsAt K → read K bs ≡ refused 6
+  pub read-short : length bs < sumsAt K → readFor K bs places ≡ refused 6
   unfolding read
   read-short l = rw (lt-leb (sumsAt K) (length bs) l)
 
   module _ (long : sumsAt K ≤ length bs) where
     -- No sum.
-    pub read-none : sumsIn K (length bs) < 1 → read K bs ≡ refused 7
+    pub read-none : sumsIn K (length bs) < 1 → readFor K bs places ≡ refused 7
     unfolding read
     read-none l = rw (le-leb (sumsAt K) (length bs) long, lt-leb 1 (sumsIn K (length bs)) l)
 
     module _ (some : 1 ≤ sumsIn K (length bs)) where
       -- More than the greatest threshold.
-      pub read-many : K .greatest < sumsIn K (length bs) → read K bs ≡ refused 7
+      pub read-many : K .greatest < sumsIn K (length bs) → readFor K bs places ≡ refused 7
       unfolding read
       read-many l = rw (le-leb (sumsAt K) (length bs) long, le-leb 1 (sumsIn K (length bs)) some, lt-leb (sumsIn K (length bs)) (K .greatest) l)
 
       module _ (few : sumsIn K (length bs) ≤ K .greatest) where
         -- A sum that is the prime or more.
-        pub read-large : every (λ (k s : ℕ). ltb s (K .modulus)) 0 (sumsOf K bs) ≡ false → read K bs ≡ refused 8
+        pub read-large : allBelow K (sumsOf K bs) ≡ false → readFor K bs places ≡ refused 8
         unfolding read
         read-large e = rw (le-leb (sumsAt K) (length bs) long, le-leb 1 (sumsIn K (length bs)) some, le-leb (sumsIn K (length bs)) (K .greatest) few, e)
 
-        -- Otherwise the sketch that the packet says.
-        pub read-given : every (λ (k s : ℕ). ltb s (K .modulus)) 0 (sumsOf K bs) ≡ true → read K bs ≡ given (sketchIn K bs)
-        unfolding read
-        read-given e = rw (le-leb (sumsAt K) (length bs) long, le-leb 1 (sumsIn K (length bs)) some, le-leb (sumsIn K (length bs)) (K .greatest) few, e)
+        module _ (below : allBelow K (sumsOf K bs) ≡ true) where
+          reads : read K bs ≡ given (sketchIn K bs)
+          unfolding read
+          reads = rw (le-leb (sumsAt K) (length bs) long, le-leb 1 (sumsIn K (length bs)) some, le-leb (sumsIn K (length bs)) (K .greatest) few, below)
+
+          -- Fewer places than sums.
+          pub read-crowded : places < sumsIn K (length bs) → readFor K bs places ≡ refused 5
+          unfolding sketchIn
+          read-crowded l = rw (reads, lt-leb (sumsIn K (length bs)) places l)
+
+          -- Otherwise the sketch that the packet says.
+          pub read-given : sumsIn K (length bs) ≤ places → readFor K bs places ≡ given (sketchIn K bs)
+          unfolding sketchIn
+          read-given l = rw (reads, le-leb (sumsIn K (length bs)) places l)
+
+-- A reading that is not refused: the packet has the bytes of its sums, these are as many as a threshold and fit the places, and what it says is given.
+pub record Reads (K : Kind) (bs : List ℕ) (places : ℕ) : Type 0 where
+  pub long : sumsAt K ≤ length bs
+  pub some : 1 ≤ sumsIn K (length bs)
+  pub few : sumsIn K (length bs) ≤ K .greatest
+  pub room : sumsIn K (length bs) ≤ places
+  pub says : readFor K bs places ≡ given (sketchIn K bs)
+
+-- A test that nothing refused passed.
+passed-within : (ok : Bool) (n : ℕ) (next : Outcome Sketch) (places : ℕ) → (n ≡ 0 → ⊥) → refusalOf (within (unless ok n next) places) ≡ 0
+    → (ok ≡ true) × (refusalOf (within next places) ≡ 0)
+passed-within true n next places h e = (refl, e)
+passed-within false n next places h e = absurd (h e)
+
+room-within : (s : Sketch) (places : ℕ) → refusalOf (within (given s) places) ≡ 0 → s .threshold ≤ places
+room-within s places e = by-test (leb (s .threshold) places) refl e
+  where
+    by-test : (b : Bool) → leb (s .threshold) places ≡ b → refusalOf (unless b 5 (given s)) ≡ 0 → s .threshold ≤ places
+    by-test true t e = leb-true (s .threshold) places t
+    by-test false t e = absurd (omega (arith, e))
+
+-- Where a reading has no refusal, the packet passed every test and its sums fit the places.
+pub read-unrefused : (K : Kind) (bs : List ℕ) (places : ℕ) → refusalOf (readFor K bs places) ≡ 0 → Reads K bs places
+unfolding read sketchIn
+read-unrefused K bs places z =
+    let past-6 = passed-within (leb (sumsAt K) (length bs)) 6 _ places (λ e. omega (arith, e)) z in
+    let past-7 = passed-within (inRange K (sumsIn K (length bs))) 7 _ places (λ e. omega (arith, e)) (past-6 .1) in
+    let past-8 = passed-within (allBelow K (sumsOf K bs)) 8 _ places (λ e. omega (arith, e)) (past-7 .1) in
+    let long = leb-true (sumsAt K) (length bs) (past-6 .0) in
+    let range = in-range-parts K (sumsIn K (length bs)) (past-7 .0) in
+    let room = room-within (sketchIn K bs) places (past-8 .1) in
+    record { long = long; some = range .0; few = range .1; room = room; says = read-given K bs places long (range .0) (range .1) (past-8 .0) room }
+
+-- As many places as the greatest threshold are never too few.
+pub read-places : (K : Kind) (bs : List ℕ) → readFor K bs (K .greatest) ≡ read K bs
+read-places K bs = by-outcome (read K bs) refl
+  where
+    by-outcome : (o : Outcome Sketch) → read K bs ≡ o → within o (K .greatest) ≡ o
+    by-outcome (refused n) e = refl
+    by-outcome (given s) e = rw (le-leb (s .threshold) (K .greatest) (read-few K bs s e))

@@ -4,13 +4,15 @@ use lib.Dec.{T}
 use Rattle.numbers.specs.Power.{powerWithin, powerMod}
 use Rattle.numbers.specs.Table.{every}
 use Rattle.rules.specs.Field.{multiplicationsWithin, multiplications}
-use Rattle.rules.specs.Sketch.{each, fresh, insert, remove}
+use Rattle.rules.specs.Sketch.{each, fresh, insert, remove, subtract, wellFormed}
 use Rattle.rules.specs.Decode.{newestFirst, coefficients, evaluate, decode}
 use Rattle.rules.specs.Packet.{bytes, number, allBytes, allNumbers, packet, sketchIn}
 use Rattle.rules.specs.Calls as calls
-use Rattle.rules.specs.Cases.{allHold, inserts, downFrom, fieldCases, decodeCases, removeCases, packetCases, limitCases, cases}
+use Rattle.rules.specs.Cases.{allHold, inserts, downFrom, fieldCases, decodeCases, removeCases, packetCases, limitCases, refusalCases, cases}
 
 -- Every case of the table gives what the requirements say.
 pub all-cases-hold : T (allHold cases)
-unfolding cases fieldCases decodeCases removeCases packetCases limitCases inserts downFrom powerMod powerWithin every multiplications multiplicationsWithin each fresh insert remove newestFirst coefficients evaluate decode bytes number allBytes allNumbers packet sketchIn calls.coefficients calls.decode calls.write calls.read
+unfolding cases fieldCases decodeCases removeCases packetCases limitCases refusalCases inserts downFrom powerMod powerWithin every multiplications multiplicationsWithin
+    each fresh insert remove newestFirst coefficients evaluate decode bytes number allBytes allNumbers packet sketchIn
+    wellFormed subtract calls.make calls.subAssign calls.sub calls.coefficients calls.evaluate calls.decode calls.write calls.read
 all-cases-hold = tt

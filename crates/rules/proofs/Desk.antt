@@ -15,7 +15,8 @@ use Rattle.rules.specs.Sketch.{each, fresh, insert, subtract}
 use Rattle.rules.specs.Decode as decoding
 use Rattle.rules.specs.Decode.{newestFirst, coefficients, evaluate}
 use Rattle.rules.specs.Calls as calls
-use Rattle.rules.specs.Lines.{bytesOf, LF, Cut, inFront, cut, greatestNumber, isDigit, allDigits, decimalValue, wellBegun, Number, some, none, number, keyed, parsed}
+use Rattle.rules.specs.Lines.{bytesOf, LF, Cut, inFront, cut, greatestNumber, isDigit, allDigits, decimalValue, wellBegun, Number, some, none, number}
+use Rattle.rules.specs.Lines.{keyed, parsed}
 use Rattle.rules.specs.Desk.{Seen, unbegun, next, allLines, closed, readLines, decided, outcome}
 use Rattle.rules.specs.Text.{decimalWithin, decimal, line, lines, printed, deskAnswer}
 use Rattle.rules.proofs.Each.{and-second}
@@ -110,9 +111,11 @@ module _ (K : Kind) where
   byte s b =
       cond (eqb b LF) (record { seen = next K (s .seen) (parsed K (s .begun)); begun = [] }) (record { seen = s .seen; begun = s .begun ++ (b ∷ []) })
 
+  -- The state after some bytes more.
   abbrev pub run : State → List ℕ → State
   run = foldl byte
 
+  -- The state after some bytes from the beginning of an input.
   abbrev pub stateAfter : List ℕ → State
   stateAfter = run (record { seen = unbegun; begun = [] })
 
@@ -135,8 +138,10 @@ module _ (K : Kind) where
   Same bs = (s : State) → closed (run s bs .seen) (run s bs .begun) ≡ readFrom (s .seen) (s .begun) (cut bs .whole) (cut bs .rest)
 
   same-after : (ends : Bool) (b : ℕ) (bs : List ℕ) (s : State) → Same bs
-      → closed (run (cond ends (record { seen = next K (s .seen) (parsed K (s .begun)); begun = [] }) (record { seen = s .seen; begun = s .begun ++ (b ∷ []) })) bs .seen)
-      (run (cond ends (record { seen = next K (s .seen) (parsed K (s .begun)); begun = [] }) (record { seen = s .seen; begun = s .begun ++ (b ∷ []) })) bs .begun)
+      → closed (run (cond ends (record { seen = next K (s .seen) (parsed K (s .begun)); begun = [] })
+      (record { seen = s .seen; begun = s .begun ++ (b ∷ []) })) bs .seen)
+      (run (cond ends (record { seen = next K (s .seen) (parsed K (s .begun)); begun = [] })
+      (record { seen = s .seen; begun = s .begun ++ (b ∷ []) })) bs .begun)
       ≡ readFrom (s .seen) (s .begun)
       (cond {A = Cut} ends (record { whole = [] ∷ cut bs .whole; rest = cut bs .rest }) (inFront b (cut bs .whole) (cut bs .rest)) .whole)
       (cond {A = Cut} ends (record { whole = [] ∷ cut bs .whole; rest = cut bs .rest }) (inFront b (cut bs .whole) (cut bs .rest)) .rest)
@@ -172,5 +177,6 @@ pub examples : Gives "threshold=3\nlog=1\nlog=2\nlog=10\ngot=1\ngot=10\n" "refus
     × Gives "threshold=2\nlog=9\nlog=7\nlog=9\ngot=7\n" "refusal=0\nthreshold=2\ncount=2\nfound=2\nmissing=9\nmissing=9\n"
     × Gives "threshold=1\nlog=01\nthreshold=0\n" "refusal=9\n"
     × Gives "threshold=1\nlog=4294967296\n" "refusal=9\n"
-unfolding deskAnswer printed lines line decimal decimalWithin outcome decided readLines closed next cut inFront parsed keyed number wellBegun allDigits decimalValue calls.decode decoding.decode evaluate coefficients newestFirst subtract insert fresh each powerMod powerWithin
+unfolding deskAnswer printed lines line decimal decimalWithin outcome decided readLines closed next cut inFront parsed keyed number wellBegun allDigits
+    decimalValue calls.decode decoding.decode evaluate coefficients newestFirst subtract insert fresh each powerMod powerWithin
 examples = (refl, refl, refl, refl, refl, refl, refl, refl, refl)

@@ -3,7 +3,7 @@
 use Prim.Native.Nat.{ℕ, zero, suc, _+_, _<_}
 use mathlib.Core.Path.{_≡_, refl, sym, _∙_, ap, ap₂}
 use mathlib.Core.Bool.{Bool, true, false, _&&_, false≢true}
-use mathlib.Core.List.{List, [], _∷_}
+use mathlib.Core.List.{List, [], _∷_, _++_}
 use native.Mathlib.Omega.{arith}
 use lib.Dec.{ltb}
 use lib.ListN.{length, getD, take, drop, replicate}
@@ -41,13 +41,6 @@ module _ (f : ℕ → ℕ → ℕ) where
   each-take (suc n) k [] = refl
   each-take (suc n) k (s ∷ ss) = ap (λ (l : List ℕ). f k s ∷ l) (each-take n (suc k) ss)
 
-  -- The numbers after the first n are those after the first n, their places counted from k + n.
-  pub each-drop : (n k : ℕ) (ss : List ℕ) → drop n (each f k ss) ≡ each f (k + n) (drop n ss)
-  unfolding each
-  each-drop zero k ss = ap (λ (i : ℕ). each f i ss) (omega arith)
-  each-drop (suc n) k [] = refl
-  each-drop (suc n) k (s ∷ ss) = each-drop n (suc k) ss ∙ ap (λ (i : ℕ). each f i (drop n ss)) (omega arith)
-
 -- Two changes are equal where they agree at every place.
 pub each-same : (f g : ℕ → ℕ → ℕ) (k : ℕ) (ss ts : List ℕ) → length ss ≡ length ts
     → ((j : ℕ) → j < length ss → f (k + j) (getD ss j 0) ≡ g (k + j) (getD ts j 0)) → each f k ss ≡ each g k ts
@@ -65,6 +58,12 @@ each-same f g k (s ∷ ss) (t ∷ ts) e same =
 
     later : (j : ℕ) → suc k + j ≡ k + suc j
     later j = omega arith
+
+-- A change of each number to 0 leaves as many zeros.
+pub each-cleared : (k : ℕ) (ss : List ℕ) → each (λ (j s : ℕ). 0) k ss ≡ replicate (length ss) 0
+unfolding each
+each-cleared k [] = refl
+each-cleared k (s ∷ ss) = ap (λ (t : List ℕ). 0 ∷ t) (each-cleared (suc k) ss)
 
 -- ---- two tests at once
 
@@ -97,6 +96,11 @@ module _ (p : ℕ) where
   drop-below zero ss below = below
   drop-below (suc n) [] below = tt
   drop-below (suc n) (s ∷ ss) below = drop-below n ss (below .1)
+
+  -- So do two lists one behind the other.
+  pub append-below : (ss ts : List ℕ) → AllBelow p ss → AllBelow p ts → AllBelow p (ss ++ ts)
+  append-below [] ts below also = also
+  append-below (s ∷ ss) ts below also = (below .0, append-below ss ts (below .1) also)
 
   -- A number of the list is below p.
   pub at-below : (ss : List ℕ) → AllBelow p ss → (j : ℕ) → j < length ss → getD ss j 0 < p

@@ -33,7 +33,8 @@ module _ (K : Kind) (cs : List ℕ) (c : ℕ) where
   horner-turn {result} {r} {k} i l e = record {
     within = omega arith;
     value = rw add-one (e ∙ add-congruent (K .modulus) (result * c) (residue K c * before) (getD cs k 0) (getD cs k 0)
-        (mul-congruent (K .modulus) result before c (residue K c) (ap (λ (z : ℕ). z % K .modulus) (i .value) ∙ mod-mod before (K .modulus)) (sym (mod-mod c (K .modulus)))
+        (mul-congruent (K .modulus) result before c (residue K c) (ap (λ (z : ℕ). z % K .modulus) (i .value) ∙ mod-mod before (K .modulus))
+        (sym (mod-mod c (K .modulus)))
         ∙ ap (λ (z : ℕ). z % K .modulus) (mul-comm before (residue K c))) refl);
   }
     where

@@ -4,11 +4,11 @@ use Prim.Native.Nat.{ℕ, _+_, _-_, _*_, _/_, _%_, _^_, _<_, _≤_, _∣_}
 use mathlib.Core.Path.{_≡_, sym, _∙_, ap, subst}
 use mathlib.Core.Bool.{true}
 use mathlib.Core.List.{List}
-use native.Mathlib.Nat.{mod-lt, mod-mod, mod-eq-of-lt, mod-eq-sub-mod, add-mod, add-mod-mod, mod-add-mod, add-mul-mod-self-left, pow-zero}
+use native.Mathlib.Nat.{mod-lt, mod-mod, mod-eq-of-lt, mod-eq-sub-mod, add-mod, add-mod-mod, mod-add-mod, pow-zero}
 use native.Mathlib.Omega.{arith}
 use lib.Dec.{T, eqb→eq}
 use lib.ListN.{length, getD}
-use Rattle.numbers.proofs.Congruence.{mul-mod, mul-mod-right, pow-mod, subtract-then-add}
+use Rattle.numbers.proofs.Congruence.{mul-mod-right, pow-mod, subtract-then-add}
 use Rattle.numbers.proofs.Inverse.{inverse-is-power, inverse-of-zero}
 use Rattle.numbers.proofs.Power.{pow-one, power-mod, power-even, power-odd}
 use Rattle.numbers.proofs.Table.{at-entry}
@@ -16,20 +16,25 @@ use Rattle.rules.specs.Kind.{Kind, counts}
 use Rattle.rules.specs.Field.{residue, plus, difference, minus, times, power, inverse, inverseAt, inversesRight}
 
 module _ (K : Kind) where
+  -- The prime is above 0.
   pub positive : 0 < K .modulus
   positive = omega (arith, K .odd)
 
   -- ---- every answer is a residue
 
+  -- The residue of a code is below the prime.
   pub residue-below : (c : ℕ) → residue K c < K .modulus
   residue-below c = mod-lt c positive
 
+  -- A sum is below the prime.
   pub plus-below : (a b : ℕ) → plus K a b < K .modulus
   plus-below a b = mod-lt (a + b) positive
 
+  -- A difference is below the prime.
   pub minus-below : (a b : ℕ) → minus K a b < K .modulus
   minus-below a b = mod-lt (a + (K .modulus - b % K .modulus)) positive
 
+  -- A product is below the prime.
   pub times-below : (a b : ℕ) → times K a b < K .modulus
   times-below a b = mod-lt (a * b) positive
 
@@ -37,9 +42,11 @@ module _ (K : Kind) where
   pub power-is : (b e : ℕ) → power K b e ≡ b ^ e % K .modulus
   power-is b e = power-mod (K .modulus) b e
 
+  -- A power is below the prime.
   pub power-below : (b e : ℕ) → power K b e < K .modulus
   power-below b e = subst (λ (x : ℕ). x < K .modulus) (sym (power-is b e)) (mod-lt (b ^ e) positive)
 
+  -- An inverse is below the prime.
   pub inverse-below : (a : ℕ) → inverse K a < K .modulus
   inverse-below a = power-below a (K .modulus - 2)
 
@@ -55,22 +62,17 @@ module _ (K : Kind) where
 
   -- ---- a number may be reduced before it is used
 
+  -- What is added may be reduced first.
   pub plus-reduced : (a b : ℕ) → plus K a (b % K .modulus) ≡ plus K a b
   plus-reduced a b = add-mod-mod a b (K .modulus)
 
+  -- What is taken off may be reduced first.
   pub minus-reduced : (a b : ℕ) → minus K a (b % K .modulus) ≡ minus K a b
   minus-reduced a b = ap (λ (x : ℕ). (a + (K .modulus - x)) % K .modulus) (mod-mod b (K .modulus))
-
-  -- The upper part of a number may be weighed by what its unit is above the prime.
-  pub weighed : (w q r : ℕ) → plus K (q * w) r ≡ residue K (r + (K .modulus + w) * q)
-  weighed w q r = sym (ap (λ (x : ℕ). x % K .modulus) (omega arith) ∙ add-mul-mod-self-left (q * w + r) (K .modulus) q)
 
   -- A sum, a product of codes is that of their residues.
   pub plus-residues : (a b : ℕ) → plus K (residue K a) (residue K b) ≡ plus K a b
   plus-residues a b = sym (add-mod a b (K .modulus))
-
-  pub times-residues : (a b : ℕ) → times K (residue K a) (residue K b) ≡ times K a b
-  times-residues a b = mul-mod a b (K .modulus)
 
   -- A difference, with what was taken off added again, is what there was.
   pub minus-then-plus : (a b : ℕ) → plus K (minus K a b) b ≡ residue K a
@@ -78,9 +80,11 @@ module _ (K : Kind) where
 
   -- ---- the power, halving by halving
 
+  -- The power with the exponent 0 is 1.
   pub power-zero : (b : ℕ) → power K b 0 ≡ 1
   power-zero b = power-is b 0 ∙ ap (λ (x : ℕ). x % K .modulus) (pow-zero b) ∙ mod-eq-of-lt (K .prime .above-one)
 
+  -- The power with the exponent 1 is the residue of the base.
   pub power-one : (b : ℕ) → power K b 1 ≡ residue K b
   power-one b = power-is b 1 ∙ ap (λ (x : ℕ). x % K .modulus) (pow-one b)
 
@@ -97,7 +101,8 @@ module _ (K : Kind) where
   -- The inverse inverts whatever the prime does not divide.
   pub inverse-inverts : (a : ℕ) → (K .modulus ∣ a → ⊥) → times K a (inverse K a) ≡ 1
   inverse-inverts a na =
-      ap (λ (x : ℕ). (a * x) % K .modulus) (power-is a (K .modulus - 2)) ∙ mul-mod-right a (a ^ (K .modulus - 2)) (K .modulus) ∙ inverse-is-power (K .modulus) (K .prime) a na
+      ap (λ (x : ℕ). (a * x) % K .modulus) (power-is a (K .modulus - 2)) ∙ mul-mod-right a (a ^ (K .modulus - 2)) (K .modulus)
+      ∙ inverse-is-power (K .modulus) (K .prime) a na
 
   -- The inverse of 0 is 0.
   pub inverse-zero : inverse K 0 ≡ 0

@@ -14,7 +14,8 @@ use Rattle.numbers.proofs.Congruence.{cancel-add}
 use Rattle.newton.specs.Members.{AllBelow, count}
 use Rattle.newton.specs.PowerSum.{powerSum}
 use Rattle.newton.specs.Polynomial.{horner, convolution, entry}
-use Rattle.newton.proofs.Permutation.{remainder, length-permuted, all-below-permuted, all-below-after, count-permuted, count-append, count-of-none, counted, power-sum-permuted, power-sum-append}
+use Rattle.newton.proofs.Permutation.{remainder, length-permuted, all-below-permuted, all-below-after, count-permuted, count-append, count-of-none, counted}
+use Rattle.newton.proofs.Permutation.{power-sum-permuted, power-sum-append}
 use Rattle.newton.proofs.Recurrence.{zero-exactly-at-members}
 use Rattle.newton.proofs.Unique.{sums-determine-members}
 use Rattle.rules.specs.Kind.{Kind}
@@ -77,24 +78,26 @@ module _ (K : Kind) (h : History) (n : ℕ) (leaves : Leaves K h n) where
       newton-solved K (sketchOf K h .sums) i (omega (arith, well-formed-history K h (leaves .allowed) .as-many, leaves .enough)) (omega (arith, left-few))
 
   -- The value at a code is 0 exactly where its residue is left.
-  pub root-is-left : (c : ℕ) → (evaluate K (coefficients K (sketchOf K h)) c ≡ 0) ↔ List·Memᴰ (residue K c) left
+  pub root-is-left : (c : ℕ) → (evaluate K (coefficients K (sketchOf K h .sums) (sketchOf K h .count)) c ≡ 0) ↔ List·Memᴰ (residue K c) left
   root-is-left c = (λ z. both .0 (sym value ∙ z), λ m. value ∙ both .1 m)
     where
       both : (horner (solution K (sketchOf K h .sums)) (residue K c) n % K .modulus ≡ 0) ↔ List·Memᴰ (residue K c) left
       both =
-          zero-exactly-at-members (K .modulus) (K .prime) left left-below (solution K (sketchOf K h .sums)) (entry (0 ∷ sketchOf K h .sums)) n left-few refl solves
+          zero-exactly-at-members (K .modulus) (K .prime) left left-below (solution K (sketchOf K h .sums))
+          (entry (0 ∷ sketchOf K h .sums)) n left-few refl solves
           left-sums (sym left-length) (residue K c) (residue-below K c)
 
-      value : evaluate K (coefficients K (sketchOf K h)) c ≡ horner (solution K (sketchOf K h .sums)) (residue K c) n % K .modulus
+      value : evaluate K (coefficients K (sketchOf K h .sums) (sketchOf K h .count)) c ≡ horner (solution K (sketchOf K h .sums)) (residue K c) n % K .modulus
       value =
-          evaluate-solution K (sketchOf K h) c ∙ ap (λ (z : ℕ). horner (solution K (sketchOf K h .sums)) (residue K c) z % K .modulus) count-is-left
+          evaluate-solution K (sketchOf K h .sums) (sketchOf K h .count) c
+          ∙ ap (λ (z : ℕ). horner (solution K (sketchOf K h .sums)) (residue K c) z % K .modulus) count-is-left
 
   -- That is where its net number is above zero.
-  pub root-is-net : (c : ℕ) → eqb (evaluate K (coefficients K (sketchOf K h)) c) 0 ≡ ltb 0 (net K h (residue K c))
+  pub root-is-net : (c : ℕ) → eqb (evaluate K (coefficients K (sketchOf K h .sums) (sketchOf K h .count)) c) 0 ≡ ltb 0 (net K h (residue K c))
   root-is-net c = by-value (eqb value 0) refl
     where
       value : ℕ
-      value = evaluate K (coefficients K (sketchOf K h)) c
+      value = evaluate K (coefficients K (sketchOf K h .sums) (sketchOf K h .count)) c
 
       by-value : (root : Bool) → eqb value 0 ≡ root → root ≡ ltb 0 (net K h (residue K c))
       by-value true t = sym (lt-ltb 0 (net K h (residue K c)) (omega (arith, left-net (residue K c), counted (root-is-left c .0 (eqb-true value 0 t)))))

@@ -20,6 +20,7 @@ use Rattle.rules.proofs.Promise.{count-exact, decode-exact}
 abbrev pub inserted : History → List ℕ → History
 inserted = foldl insert
 
+-- The history with the log codes l put into threshold T, and the sketch of the got codes g subtracted.
 abbrev pub lacking : ℕ → List ℕ → List ℕ → History
 lacking T l g = subAssign (inserted (fresh T) l) (inserted (fresh T) g)
 
@@ -46,6 +47,7 @@ module _ (K : Kind) where
   unfolding outcome
   missing-exact = decided-exact
 
+  -- Without got lines the missing lines are exact too, where the log leaves no more than the threshold.
   pub all-missing-exact : (T : ℕ) (l : List ℕ) (n : ℕ) → Leaves K (lacking T l []) n → outcome K (logs T l) ≡ given (exact T l [] n)
   unfolding outcome
   all-missing-exact T l = decided-exact T l []

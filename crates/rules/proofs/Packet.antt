@@ -4,7 +4,7 @@ use Prim.Native.Nat.{ℕ, zero, suc, _+_, _-_, _*_, _/_, _^_, _<_, _≤_, min}
 use mathlib.Core.Path.{_≡_, refl, sym, _∙_, ap, ap₂, subst}
 use mathlib.Core.Bool.{Bool, true, false}
 use mathlib.Core.List.{List, [], _∷_, _++_, append-assoc}
-use native.Mathlib.Nat.{pow-succ', pow-zero, mod-lt, mod-eq-of-lt, zero-mul, mul-div-cancel, div-add-mod'}
+use native.Mathlib.Nat.{pow-succ', pow-zero, mod-eq-of-lt, zero-mul, mul-div-cancel, div-add-mod'}
 use native.Mathlib.Decide.{decLe}
 use native.Mathlib.Omega.{arith}
 use lib.Dec.{leb, ltb}
@@ -13,11 +13,11 @@ use lib.Seq.{take-at, drop-at, drop-drop, take-all, take-add, length-take-le}
 use borrow.Author.Tests.{le-leb, leb-true, lt-ltb, ltb-true}
 use Rattle.numbers.specs.Table.{every}
 use Rattle.newton.specs.Members.{AllBelow}
-use Rattle.rules.specs.Kind.{Kind, counts}
+use Rattle.rules.specs.Kind.{Kind, countBytes, counts}
 use Rattle.rules.specs.Field.{residue}
 use Rattle.rules.specs.Sketch.{Last, nothing, code, Sketch, inRange, lastFits, WellFormed, cut}
 use Rattle.rules.specs.Packet.{bytes, number, allBytes, allNumbers, sumsAt, packetLength, packet, sumsIn, sumsOf, sketchIn}
-use Rattle.rules.specs.Calls.{Outcome, given, unless, refusalOf, packed, writeWithHint, write, read}
+use Rattle.rules.specs.Calls.{Outcome, given, unless, refusalOf, fitting, packed, writeWithHint, write, read}
 use Rattle.rules.specs.History.{HasLast}
 use Rattle.rules.proofs.Field.{residue-below}
 use Rattle.rules.proofs.Each.{take-below, drop-below, below-every, every-below}
@@ -30,12 +30,6 @@ pub bytes-length : (n x : ℕ) → length (bytes n x) ≡ n
 unfolding bytes
 bytes-length zero x = refl
 bytes-length (suc n) x = ap suc (bytes-length n (x / 256))
-
--- Each is a byte.
-pub bytes-below : (n x : ℕ) → AllBelow 256 (bytes n x)
-unfolding bytes
-bytes-below zero x = tt
-bytes-below (suc n) x = (mod-lt x (omega arith), bytes-below n (x / 256))
 
 -- Bytes say a number that they have room for.
 pub number-below : (bs : List ℕ) → AllBelow 256 bs → number bs < 256 ^ length bs
@@ -114,56 +108,68 @@ bytes-of-numbers w (suc n) bs below l =
 -- ---- a sketch written and read again
 
 -- A packet is as long as its sums say.
-pub packet-length : (K : Kind) (s : Sketch) (x m : ℕ) → length (packet K s x m) ≡ packetLength K (length (take m (s .sums)))
+pub packet-length : (K : Kind) (count x : ℕ) (sums : List ℕ) → length (packet K count x sums) ≡ packetLength K (length sums)
 unfolding packet
-packet-length K s x m =
+packet-length K count x sums =
     omega (
       arith,
-      length-append (bytes 4 (s .count)) (bytes (K .codeBytes) x ++ allBytes (K .codeBytes) (take m (s .sums))),
-      bytes-length 4 (s .count),
-      length-append (bytes (K .codeBytes) x) (allBytes (K .codeBytes) (take m (s .sums))),
+      length-append (bytes countBytes count) (bytes (K .codeBytes) x ++ allBytes (K .codeBytes) sums),
+      bytes-length countBytes count,
+      length-append (bytes (K .codeBytes) x) (allBytes (K .codeBytes) sums),
       bytes-length (K .codeBytes) x,
-      all-bytes-length (K .codeBytes) (take m (s .sums)),
+      all-bytes-length (K .codeBytes) sums,
     )
 
 -- With m sums of a well-formed sketch it is as long as m says.
-pub packet-length-within : (K : Kind) (s : Sketch) → WellFormed K s → (x m : ℕ) → m ≤ s .threshold → length (packet K s x m) ≡ packetLength K m
-packet-length-within K s w x m l = packet-length K s x m ∙ ap (packetLength K) (length-take-le m (s .sums) (omega arith))
+pub packet-length-within : (K : Kind) (s : Sketch) → WellFormed K s → (x m : ℕ) → m ≤ s .threshold
+    → length (packet K (s .count) x (take m (s .sums))) ≡ packetLength K m
+packet-length-within K s w x m l =
+    packet-length K (s .count) x (take m (s .sums)) ∙ ap (packetLength K) (length-take-le m (s .sums) (omega arith))
 
 module _ (K : Kind) (s : Sketch) (w : WellFormed K s) (x : ℕ) (last : s .last ≡ code x) (m : ℕ) where
+  -- The packet with the first m sums, and how long it is.
+  abbrev whole : List ℕ
+  whole = packet K (s .count) x (take m (s .sums))
+
+  whole-length : length whole ≡ packetLength K (length (take m (s .sums)))
+  whole-length = packet-length K (s .count) x (take m (s .sums))
+
   last-below : x < K .modulus
   last-below = ltb-true x (K .modulus) (ap (lastFits K) (sym last) ∙ w .last-fits)
 
-  sums-there : sumsIn K (length (packet K s x m)) ≡ length (take m (s .sums))
+  sums-there : sumsIn K (length whole) ≡ length (take m (s .sums))
   sums-there = ap (λ (z : ℕ). z / K .codeBytes) size ∙ mul-div-cancel (length (take m (s .sums))) (K .some-byte)
     where
-      size : length (packet K s x m) - sumsAt K ≡ length (take m (s .sums)) * K .codeBytes
-      size = omega (arith, packet-length K s x m)
+      size : length whole - sumsAt K ≡ length (take m (s .sums)) * K .codeBytes
+      size = omega (arith, whole-length)
 
-  behind-count : drop 4 (packet K s x m) ≡ bytes (K .codeBytes) x ++ allBytes (K .codeBytes) (take m (s .sums))
+  behind-count : drop countBytes whole ≡ bytes (K .codeBytes) x ++ allBytes (K .codeBytes) (take m (s .sums))
   unfolding packet
-  behind-count = drop-at (bytes 4 (s .count)) (bytes (K .codeBytes) x ++ allBytes (K .codeBytes) (take m (s .sums))) 4 (bytes-length 4 (s .count))
+  behind-count =
+      drop-at (bytes countBytes (s .count)) (bytes (K .codeBytes) x ++ allBytes (K .codeBytes) (take m (s .sums))) countBytes
+      (bytes-length countBytes (s .count))
 
-  behind-last : drop (sumsAt K) (packet K s x m) ≡ allBytes (K .codeBytes) (take m (s .sums))
+  behind-last : drop (sumsAt K) whole ≡ allBytes (K .codeBytes) (take m (s .sums))
   behind-last =
-      sym (drop-drop (K .codeBytes) 4 (packet K s x m)) ∙ ap (drop (K .codeBytes)) behind-count
+      sym (drop-drop (K .codeBytes) countBytes whole) ∙ ap (drop (K .codeBytes)) behind-count
       ∙ drop-at (bytes (K .codeBytes) x) (allBytes (K .codeBytes) (take m (s .sums))) (K .codeBytes) (bytes-length (K .codeBytes) x)
 
-  same-threshold : sumsIn K (length (packet K s x m)) ≡ min (s .threshold) m
+  same-threshold : sumsIn K (length whole) ≡ min (s .threshold) m
   same-threshold = sums-there ∙ omega (arith, length-take m (s .sums))
 
-  same-sums : sumsOf K (packet K s x m) ≡ take m (s .sums)
+  same-sums : sumsOf K whole ≡ take m (s .sums)
   same-sums =
       ap₂ (allNumbers (K .codeBytes)) sums-there behind-last
       ∙ numbers-of-bytes (K .codeBytes) (K .modulus) (K .fits) (take m (s .sums)) (take-below (K .modulus) m (s .sums) (w .sums-below))
 
-  same-count : number (take 4 (packet K s x m)) ≡ s .count
+  same-count : number (take countBytes whole) ≡ s .count
   unfolding packet
   same-count =
-      ap number (take-at (bytes 4 (s .count)) (bytes (K .codeBytes) x ++ allBytes (K .codeBytes) (take m (s .sums))) 4 (bytes-length 4 (s .count)))
-      ∙ number-of-bytes 4 (s .count) (w .count-below)
+      ap number (take-at (bytes countBytes (s .count)) (bytes (K .codeBytes) x ++ allBytes (K .codeBytes) (take m (s .sums))) countBytes
+      (bytes-length countBytes (s .count)))
+      ∙ number-of-bytes countBytes (s .count) (w .count-below)
 
-  same-last : code (residue K (number (take (K .codeBytes) (drop 4 (packet K s x m))))) ≡ s .last
+  same-last : code (residue K (number (take (K .codeBytes) (drop countBytes whole)))) ≡ s .last
   same-last =
       ap {B = Last} code
       (ap (λ (l : List ℕ). residue K (number (take (K .codeBytes) l))) behind-count
@@ -173,19 +179,19 @@ module _ (K : Kind) (s : Sketch) (w : WellFormed K s) (x : ℕ) (last : s .last 
       ∙ sym last
 
   -- The packet of a well-formed sketch with its first m sums says the sketch cut to them.
-  pub read-of-written : sketchIn K (packet K s x m) ≡ cut s m
+  pub read-of-written : sketchIn K whole ≡ cut s m
   unfolding sketchIn cut
   read-of-written = λ i. record { threshold = same-threshold i; sums = same-sums i; count = same-count i; last = same-last i }
 
   -- With at least one sum it is read without a refusal.
-  pub read-back : 1 ≤ m → read K (packet K s x m) ≡ given (cut s m)
+  pub read-back : 1 ≤ m → read K whole ≡ given (cut s m)
   unfolding read
   read-back l =
       rw (
-        le-leb (sumsAt K) (length (packet K s x m)) (omega (arith, packet-length K s x m)),
-        le-leb 1 (sumsIn K (length (packet K s x m))) (omega (arith, same-threshold)),
-        le-leb (sumsIn K (length (packet K s x m))) (K .greatest) (omega (arith, same-threshold)),
-        below-every (K .modulus) 0 (sumsOf K (packet K s x m)) (subst (AllBelow (K .modulus)) (sym same-sums) (take-below (K .modulus) m (s .sums) (w .sums-below))),
+        le-leb (sumsAt K) (length whole) (omega (arith, whole-length)),
+        le-leb 1 (sumsIn K (length whole)) (omega (arith, same-threshold)),
+        le-leb (sumsIn K (length whole)) (K .greatest) (omega (arith, same-threshold)),
+        below-every (K .modulus) 0 (sumsOf K whole) (subst (AllBelow (K .modulus)) (sym same-sums) (take-below (K .modulus) m (s .sums) (w .sums-below))),
         read-of-written,
       )
 
@@ -196,11 +202,14 @@ pub passed : {A : Type 0} (ok : Bool) (n : ℕ) (next : Outcome A) (a : A) → u
 passed true n next a e = (refl, e)
 passed false n next a e = absurd (let z : _≡_ {A = ℕ} 0 1 = cc in omega arith)
 
+fitting-given : (l : List ℕ) (room : ℕ) (bs : List ℕ) → fitting l room ≡ given bs → bs ≡ l
+fitting-given l room bs e = let there = passed (leb (length l) room) 5 (given l) bs e .1 in cc
+
 -- A packet that is given is the sketch's, with a last code.
 packed-given : (K : Kind) (s : Sketch) (m room : ℕ) (bs : List ℕ) (last : Last) → packed K s last m room ≡ given bs
-    → (x : ℕ) × ((last ≡ code x) × (bs ≡ packet K s x m))
+    → (x : ℕ) × ((last ≡ code x) × (bs ≡ packet K (s .count) x (take m (s .sums))))
 packed-given K s m room bs nothing e = absurd (let z : _≡_ {A = ℕ} 0 1 = cc in omega arith)
-packed-given K s m room bs (code x) e = let there = passed (leb (packetLength K m) room) 5 (given (packet K s x m)) bs e .1 in (x, (refl, (cc)))
+packed-given K s m room bs (code x) e = (x, (refl, fitting-given (packet K (s .count) x (take m (s .sums))) room bs e))
 
 module _ (K : Kind) (s : Sketch) (w : WellFormed K s) where
   cut-within : (m : ℕ) → cut s (min (s .threshold) m) ≡ cut s m
@@ -239,27 +248,25 @@ module _ (K : Kind) (s : Sketch) (w : WellFormed K s) where
 
 -- ---- an answer without a refusal
 
+fitting-unrefused : (l : List ℕ) (room : ℕ) → refusalOf (fitting l room) ≡ 0 → (bs : List ℕ) × (fitting l room ≡ given bs)
+fitting-unrefused l room e = by-test (leb (length l) room) e
+  where
+    by-test : (fits : Bool) → refusalOf (unless {A = List ℕ} fits 5 (given l)) ≡ 0 → (bs : List ℕ) × (unless fits 5 (given l) ≡ given bs)
+    by-test true z = (l, refl)
+    by-test false z = absurd (omega arith)
+
 -- A packet that is not refused is given, and there is a last code.
 packed-unrefused : (K : Kind) (s : Sketch) (m room : ℕ) (last : Last) → refusalOf (packed K s last m room) ≡ 0
     → HasLast last × ((bs : List ℕ) × (packed K s last m room ≡ given bs))
 packed-unrefused K s m room nothing e = absurd (omega arith)
-packed-unrefused K s m room (code x) e = by-test (leb (packetLength K m) room) e
-  where
-    by-test : (fits : Bool) → refusalOf (unless {A = List ℕ} fits 5 (given (packet K s x m))) ≡ 0
-        → Unit {0} × ((bs : List ℕ) × (unless fits 5 (given (packet K s x m)) ≡ given bs))
-    by-test true z = (tt, (packet K s x m, refl))
-    by-test false z = absurd (omega arith)
+packed-unrefused K s m room (code x) e = (tt, fitting-unrefused (packet K (s .count) x (take m (s .sums))) room e)
 
 module _ (K : Kind) (s : Sketch) (room : ℕ) where
   -- A writing with a hint that is not refused gives bytes, and there is a last code.
-  pub hint-unrefused : (h : ℕ) → refusalOf (writeWithHint K true s h room) ≡ 0 → HasLast (s .last) × ((bs : List ℕ) × (writeWithHint K true s h room ≡ given bs))
+  pub hint-unrefused : (h : ℕ) → refusalOf (writeWithHint K true s h room) ≡ 0
+      → HasLast (s .last) × ((bs : List ℕ) × (writeWithHint K true s h room ≡ given bs))
   unfolding writeWithHint
   hint-unrefused h e = packed-unrefused K s (min (s .threshold) h) room (s .last) e
-
-  -- So does one without a hint.
-  pub write-unrefused : refusalOf (write K true s room) ≡ 0 → HasLast (s .last) × ((bs : List ℕ) × (write K true s room ≡ given bs))
-  unfolding write
-  write-unrefused e = packed-unrefused K s (s .threshold) room (s .last) e
 
 -- ---- a packet read and written again
 
@@ -283,7 +290,7 @@ module _ (K : Kind) (bs : List ℕ) (s : Sketch) (e : read K bs ≡ given s) whe
   pub read-long : sumsAt K ≤ length bs
   read-long = leb-true (sumsAt K) (length bs) (past-6 .0)
 
-  said-count : s .count ≡ number (take 4 bs)
+  said-count : s .count ≡ number (take countBytes bs)
   unfolding sketchIn
   said-count = ap (λ (s : Sketch). s .count) read-is-said
 
@@ -291,46 +298,62 @@ module _ (K : Kind) (bs : List ℕ) (s : Sketch) (e : read K bs ≡ given s) whe
   unfolding sketchIn
   said-threshold = ap (λ (s : Sketch). s .threshold) read-is-said
 
+  -- Its threshold is in range, and it has as many sums.
+  pub read-some : 1 ≤ s .threshold
+  read-some = omega (arith, said-threshold, in-range-parts K (sumsIn K (length bs)) (past-7 .0) .0)
+
+  -- Its threshold is at most the greatest.
+  pub read-few : s .threshold ≤ K .greatest
+  read-few = omega (arith, said-threshold, in-range-parts K (sumsIn K (length bs)) (past-7 .0) .1)
+
   said-sums : s .sums ≡ sumsOf K bs
   unfolding sketchIn
   said-sums = ap (λ (s : Sketch). s .sums) read-is-said
 
-  said-last : s .last ≡ code (residue K (number (take (K .codeBytes) (drop 4 bs))))
+  -- It has as many sums as its threshold says.
+  pub read-as-many : length (s .sums) ≡ s .threshold
+  read-as-many = ap length said-sums ∙ all-numbers-length (K .codeBytes) (sumsIn K (length bs)) (drop (sumsAt K) bs) ∙ sym said-threshold
+
+  said-last : s .last ≡ code (residue K (number (take (K .codeBytes) (drop countBytes bs))))
   unfolding sketchIn
   said-last = ap (λ (s : Sketch). s .last) read-is-said
+
+  -- Its sums are below the prime.
+  pub read-sums-below : AllBelow (K .modulus) (s .sums)
+  read-sums-below = subst (AllBelow (K .modulus)) (sym said-sums) (every-below (K .modulus) 0 (sumsOf K bs) (past-8 .0))
 
   module _ (below : AllBelow 256 bs) where
     -- What is read is well formed.
     pub read-well-formed : WellFormed K s
     read-well-formed =
-        let range = in-range-parts K (sumsIn K (length bs)) (past-7 .0) in
         record {
-          at-least = omega (arith, said-threshold);
-          at-most = omega (arith, said-threshold);
-          as-many = ap length said-sums ∙ all-numbers-length (K .codeBytes) (sumsIn K (length bs)) (drop (sumsAt K) bs) ∙ sym said-threshold;
-          sums-below = subst (AllBelow (K .modulus)) (sym said-sums) (every-below (K .modulus) 0 (sumsOf K bs) (past-8 .0));
+          at-least = read-some;
+          at-most = read-few;
+          as-many = read-as-many;
+          sums-below = read-sums-below;
           count-below = subst (λ (n : ℕ). n < counts) (sym said-count) count-fits;
-          last-fits = ap (lastFits K) said-last ∙ lt-ltb _ _ (residue-below K (number (take (K .codeBytes) (drop 4 bs))));
+          last-fits = ap (lastFits K) said-last ∙ lt-ltb _ _ (residue-below K (number (take (K .codeBytes) (drop countBytes bs))));
         }
       where
-        count-fits : number (take 4 bs) < counts
+        count-fits : number (take countBytes bs) < counts
         count-fits =
-            subst (λ (k : ℕ). number (take 4 bs) < 256 ^ k) (length-take-le 4 bs (omega (arith, read-long)))
-            (number-below (take 4 bs) (take-below 256 4 bs below))
+            subst (λ (k : ℕ). number (take countBytes bs) < 256 ^ k) (length-take-le countBytes bs (omega (arith, read-long)))
+            (number-below (take countBytes bs) (take-below 256 countBytes bs below))
 
     -- Written again with all its sums, it gives the packet's first bytes, as many as the sums say, with the last code reduced.
     pub written-again : (x : ℕ) → s .last ≡ code x
-        → packet K s x (s .threshold)
-        ≡ take 4 bs ++ (bytes (K .codeBytes) (residue K (number (take (K .codeBytes) (drop 4 bs)))) ++ take (s .threshold * K .codeBytes) (drop (sumsAt K) bs))
+        → packet K (s .count) x (take (s .threshold) (s .sums))
+        ≡ take countBytes bs ++ (bytes (K .codeBytes) (residue K (number (take (K .codeBytes) (drop countBytes bs)))) ++ take (s .threshold * K .codeBytes)
+        (drop (sumsAt K) bs))
     unfolding packet
     written-again x last =
-        ap₂ {C = List ℕ} _++_ (ap (bytes 4) said-count ∙ bytes-of-taken 4 bs below (omega (arith, read-long)))
+        ap₂ {C = List ℕ} _++_ (ap (bytes countBytes) said-count ∙ bytes-of-taken countBytes bs below (omega (arith, read-long)))
         (ap₂ {C = List ℕ} _++_ (ap (bytes (K .codeBytes)) same-code)
         (ap (allBytes (K .codeBytes)) (take-all (s .threshold) (s .sums) (omega (arith, read-well-formed .as-many)) ∙ said-sums)
         ∙ bytes-of-numbers (K .codeBytes) (sumsIn K (length bs)) (drop (sumsAt K) bs) (drop-below 256 (sumsAt K) bs below) room
         ∙ ap (λ (n : ℕ). take (n * K .codeBytes) (drop (sumsAt K) bs)) (sym said-threshold)))
       where
-        same-code : x ≡ residue K (number (take (K .codeBytes) (drop 4 bs)))
+        same-code : x ≡ residue K (number (take (K .codeBytes) (drop countBytes bs)))
         same-code = let y = said-last in cc
 
         room : sumsIn K (length bs) * K .codeBytes ≤ length (drop (sumsAt K) bs)

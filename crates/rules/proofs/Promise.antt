@@ -40,7 +40,8 @@ unfolding decode
 decode-lists K h n leaves log = by-count (eqb (sketchOf K h .count) 0) refl
   where
     by-count : (none : Bool) → eqb (sketchOf K h .count) 0 ≡ none
-        → cond none [] (keep (λ c. eqb (evaluate K (coefficients K (sketchOf K h)) c) 0) log) ≡ keep (λ c. ltb 0 (net K h (residue K c))) log
+        → cond none [] (keep (λ c. eqb (evaluate K (coefficients K (sketchOf K h .sums) (sketchOf K h .count)) c) 0) log)
+        ≡ keep (λ c. ltb 0 (net K h (residue K c))) log
     by-count true e =
         let nothing-left = sym (count-is-left K h n leaves) ∙ eqb-true (sketchOf K h .count) 0 e in
         sym (keep-none (λ c. ltb 0 (net K h (residue K c))) (λ c. none-left K h n leaves nothing-left (residue K c)) log)
@@ -65,7 +66,7 @@ same-net K h g n leaves others e r =
 
 -- A history is carried on by a packet: written with a last code x and its first m sums, at least one, and read again.
 pub carried-on : (K : Kind) (h : History) → Allowed K h → (x : ℕ) → sketchOf K h .last ≡ code x → (m : ℕ) → 1 ≤ m
-    → calls.read K (packet K (sketchOf K h) x m) ≡ given (sketchOf K (carried h m))
+    → calls.read K (packet K (sketchOf K h .count) x (take m (sketchOf K h .sums))) ≡ given (sketchOf K (carried h m))
 carried-on K h a x last m l = read-back K (sketchOf K h) (well-formed K h a) x last m l
 
 -- So it is by whatever the call of writing with a hint of at least 1 gives.

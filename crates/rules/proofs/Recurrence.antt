@@ -3,23 +3,21 @@
 use Prim.Native.Nat.{ℕ, zero, suc, _+_, _-_, _*_, _%_, _^_, _<_, _≤_}
 use mathlib.Core.Path.{_≡_, refl, sym, _∙_, ap, ap₂}
 use mathlib.Core.Logic.{_⊎_, inl, inr}
-use mathlib.Core.List.{List, [], _∷_}
+use mathlib.Core.List.{List, [], _∷_, reverse, reverseAux}
 use native.Mathlib.Nat.{mul-one, one-mul, zero-mod, mod-self, mod-eq-of-lt, eq-or-lt-of-le}
 use native.Mathlib.Omega.{arith}
-use lib.ListN.{length, getD}
+use lib.ListN.{length, getD, length-reverse}
 use Rattle.numbers.proofs.Binomial.{sumTo, sum-first, sum-same}
 use Rattle.numbers.proofs.Congruence.{mul-mod-right, add-congruent}
 use Rattle.numbers.proofs.Euclid.{divides-none-below}
 use Rattle.numbers.proofs.Power.{one-pow}
-use Rattle.newton.specs.Members.{AllBelow}
 use Rattle.newton.specs.Polynomial.{horner, convolution, entry, lowerTerms}
 use Rattle.newton.proofs.Multiplicity.{value-as-horner}
 use Rattle.newton.proofs.Recurrence.{horner-congruent}
 use Rattle.rules.specs.Kind.{Kind}
 use Rattle.rules.specs.Field.{residue, minus, negative, times, inverse}
-use Rattle.rules.specs.Sketch.{Sketch}
-use Rattle.rules.specs.Decode.{products, newestFirst, turned, coefficients, evaluate}
-use Rattle.rules.proofs.Field.{minus-below, times-below, power-is, minus-then-plus, inverse-inverts}
+use Rattle.rules.specs.Decode.{products, newestFirst, coefficients, evaluate}
+use Rattle.rules.proofs.Field.{minus-below, power-is, minus-then-plus, inverse-inverts}
 
 -- ---- numbers in falling order
 
@@ -28,21 +26,17 @@ abbrev downFrom : (ℕ → ℕ) → ℕ → List ℕ
 downFrom f zero = []
 downFrom f (suc i) = f i ∷ downFrom f i
 
-turned-length : (cs bs : List ℕ) → length (turned cs bs) ≡ length cs + length bs
-turned-length [] bs = omega arith
-turned-length (a ∷ cs) bs = omega (arith, turned-length cs (a ∷ bs))
+reversed-past : (f : ℕ → ℕ) (n : ℕ) (bs : List ℕ) (i : ℕ) → getD (reverseAux (downFrom f n) bs) (n + i) 0 ≡ getD bs i 0
+reversed-past f zero bs i = ap (λ (k : ℕ). getD bs k 0) (omega arith)
+reversed-past f (suc n) bs i = ap (λ (k : ℕ). getD (reverseAux (downFrom f n) (f n ∷ bs)) k 0) (omega arith) ∙ reversed-past f n (f n ∷ bs) (suc i)
 
-turned-past : (f : ℕ → ℕ) (n : ℕ) (bs : List ℕ) (i : ℕ) → getD (turned (downFrom f n) bs) (n + i) 0 ≡ getD bs i 0
-turned-past f zero bs i = ap (λ (k : ℕ). getD bs k 0) (omega arith)
-turned-past f (suc n) bs i = ap (λ (k : ℕ). getD (turned (downFrom f n) (f n ∷ bs)) k 0) (omega arith) ∙ turned-past f n (f n ∷ bs) (suc i)
-
--- Turned round, value i stands at place i.
-turned-at : (f : ℕ → ℕ) (n : ℕ) (bs : List ℕ) (i : ℕ) → i < n → getD (turned (downFrom f n) bs) i 0 ≡ f i
-turned-at f zero bs i l = absurd (omega arith)
-turned-at f (suc n) bs i l = by-place (turned-at f n (f n ∷ bs) i) (eq-or-lt-of-le (omega arith))
+-- The other way round, value i stands at place i.
+reversed-at : (f : ℕ → ℕ) (n : ℕ) (bs : List ℕ) (i : ℕ) → i < n → getD (reverseAux (downFrom f n) bs) i 0 ≡ f i
+reversed-at f zero bs i l = absurd (omega arith)
+reversed-at f (suc n) bs i l = by-place (reversed-at f n (f n ∷ bs) i) (eq-or-lt-of-le (omega arith))
   where
-    by-place : (i < n → getD (turned (downFrom f n) (f n ∷ bs)) i 0 ≡ f i) → (i ≡ n) ⊎ (i < n) → getD (turned (downFrom f n) (f n ∷ bs)) i 0 ≡ f i
-    by-place earlier (inl e) = ap (λ (k : ℕ). getD (turned (downFrom f n) (f n ∷ bs)) k 0) (omega arith) ∙ turned-past f n (f n ∷ bs) 0 ∙ ap f (sym e)
+    by-place : (i < n → getD (reverseAux (downFrom f n) (f n ∷ bs)) i 0 ≡ f i) → (i ≡ n) ⊎ (i < n) → getD (reverseAux (downFrom f n) (f n ∷ bs)) i 0 ≡ f i
+    by-place earlier (inl e) = ap (λ (k : ℕ). getD (reverseAux (downFrom f n) (f n ∷ bs)) k 0) (omega arith) ∙ reversed-past f n (f n ∷ bs) 0 ∙ ap f (sym e)
     by-place earlier (inr u) = earlier u
 
 sum-of-none : (f : ℕ → ℕ) (n : ℕ) → sumTo (λ j. 0 * f j) n ≡ 0
@@ -86,11 +80,6 @@ module _ (K : Kind) (sums : List ℕ) where
   newest-down zero = refl
   newest-down (suc i) = ap {B = List ℕ} (λ l. solution (suc i) ∷ l) (newest-down i)
 
-  newest-below : (i : ℕ) → AllBelow (K .modulus) (newestFirst K sums i)
-  unfolding newestFirst
-  newest-below zero = tt
-  newest-below (suc i) = (times-below K _ _, newest-below i)
-
   newest-length : (i : ℕ) → length (newestFirst K sums i) ≡ i
   unfolding newestFirst
   newest-length zero = refl
@@ -121,51 +110,43 @@ module _ (K : Kind) (sums : List ℕ) where
       head : (suc i * solution (suc i)) % m ≡ x % m
       head =
           mul-mod-right (suc i) (x * inverse K (suc i)) m ∙ ap (λ (z : ℕ). z % m) (omega arith) ∙ sym (mul-mod-right x (suc i * inverse K (suc i)) m)
-          ∙ ap (λ (z : ℕ). (x * z) % m) (inverse-inverts K (suc i) (divides-none-below m (K .prime) (suc i) (omega arith) u)) ∙ ap (λ (z : ℕ). z % m) (mul-one x)
+          ∙ ap (λ (z : ℕ). (x * z) % m) (inverse-inverts K (suc i) (divides-none-below m (K .prime) (suc i) (omega arith) u))
+          ∙ ap (λ (z : ℕ). z % m) (mul-one x)
 
       tail : convolution (λ j. solution (suc j)) (entry (0 ∷ sums)) i ≡ lower
       tail = sym (ap (products sums) (newest-down i) ∙ products-as-convolution sums 0 (λ j. solution (suc j)) i (omega arith))
 
-turned-below : (p : ℕ) (cs bs : List ℕ) → AllBelow p cs → AllBelow p bs → AllBelow p (turned cs bs)
-turned-below p [] bs below-first below-second = below-second
-turned-below p (a ∷ cs) bs below-first below-second = turned-below p cs (a ∷ bs) (below-first .1) (below-first .0, below-second)
+module _ (K : Kind) (sums : List ℕ) (n : ℕ) where
+  -- ---- the coefficients
 
-module _ (K : Kind) (s : Sketch) where
-  -- ---- the coefficients of a sketch
-
-  -- There are as many as the count says.
-  pub coefficients-length : length (coefficients K s) ≡ s .count
+  -- There are n of them.
+  pub coefficients-length : length (coefficients K sums n) ≡ n
   unfolding coefficients
-  coefficients-length = omega (arith, turned-length (newestFirst K (s .sums) (s .count)) [], newest-length K (s .sums) (s .count))
-
-  -- Every one is a residue.
-  pub coefficients-below : AllBelow (K .modulus) (coefficients K s)
-  unfolding coefficients
-  coefficients-below = turned-below (K .modulus) (newestFirst K (s .sums) (s .count)) [] (newest-below K (s .sums) (s .count)) tt
+  coefficients-length = length-reverse (newestFirst K sums n) ∙ newest-length K sums n
 
   -- They are the recurrence's solution.
-  pub coefficient-is-solution : (i : ℕ) → i < s .count → getD (coefficients K s) i 0 ≡ solution K (s .sums) (suc i)
+  pub coefficient-is-solution : (i : ℕ) → i < n → getD (coefficients K sums n) i 0 ≡ solution K sums (suc i)
   unfolding coefficients
   coefficient-is-solution i l =
-      ap (λ (cs : List ℕ). getD (turned cs []) i 0) (newest-down K (s .sums) (s .count)) ∙ turned-at (λ j. solution K (s .sums) (suc j)) (s .count) [] i l
+      ap (λ (cs : List ℕ). getD (reverse cs) i 0) (newest-down K sums n) ∙ reversed-at (λ j. solution K sums (suc j)) n [] i l
 
   -- Coefficient i, i from 0, is the recurrence's step from those before it.
-  pub coefficient-at : (i : ℕ) → i < s .count → getD (coefficients K s) i 0
-      ≡ times K (minus K (negative K (sumTo (λ j. getD (s .sums) j 0 * getD (coefficients K s) (i - j - 1) 0) i)) (getD (s .sums) i 0)) (inverse K (i + 1))
+  pub coefficient-at : (i : ℕ) → i < n → getD (coefficients K sums n) i 0
+      ≡ times K (minus K (negative K (sumTo (λ j. getD sums j 0 * getD (coefficients K sums n) (i - j - 1) 0) i)) (getD sums i 0)) (inverse K (i + 1))
   coefficient-at i l =
       coefficient-is-solution i l
-      ∙ ap₂ (λ (a b : ℕ). times K (minus K (negative K a) (getD (s .sums) i 0)) (inverse K b)) lower (omega arith)
+      ∙ ap₂ (λ (a b : ℕ). times K (minus K (negative K a) (getD sums i 0)) (inverse K b)) lower (omega arith)
     where
-      lower : products (s .sums) (newestFirst K (s .sums) i) ≡ sumTo (λ j. getD (s .sums) j 0 * getD (coefficients K s) (i - j - 1) 0) i
+      lower : products sums (newestFirst K sums i) ≡ sumTo (λ j. getD sums j 0 * getD (coefficients K sums n) (i - j - 1) 0) i
       lower =
-          ap (products (s .sums)) (newest-down K (s .sums) i) ∙ products-as-sum (s .sums) (λ j. solution K (s .sums) (suc j)) i
-          ∙ sum-same _ _ (λ j. ap (λ (a : ℕ). getD (s .sums) j 0 * a) (sym (coefficient-is-solution (i - j - 1) (omega arith)))) i
+          ap (products sums) (newest-down K sums i) ∙ products-as-sum sums (λ j. solution K sums (suc j)) i
+          ∙ sum-same _ _ (λ j. ap (λ (a : ℕ). getD sums j 0 * a) (sym (coefficient-is-solution (i - j - 1) (omega arith)))) i
 
   -- The first coefficient is the negative of the first sum.
-  pub first-coefficient : 0 < s .count → getD (coefficients K s) 0 0 ≡ negative K (getD (s .sums) 0 0)
+  pub first-coefficient : 0 < n → getD (coefficients K sums n) 0 0 ≡ negative K (getD sums 0 0)
   first-coefficient l =
-      coefficient-at 0 l ∙ ap₂ (λ (a b : ℕ). times K (minus K a (getD (s .sums) 0 0)) b) none one
-      ∙ ap (λ (z : ℕ). z % K .modulus) (mul-one _) ∙ mod-eq-of-lt (minus-below K 0 (getD (s .sums) 0 0))
+      coefficient-at 0 l ∙ ap₂ (λ (a b : ℕ). times K (minus K a (getD sums 0 0)) b) none one
+      ∙ ap (λ (z : ℕ). z % K .modulus) (mul-one _) ∙ mod-eq-of-lt (minus-below K 0 (getD sums 0 0))
     where
       none : negative K 0 ≡ 0
       none = ap (λ (z : ℕ). (0 + (K .modulus - z)) % K .modulus) (zero-mod (K .modulus)) ∙ ap (λ (z : ℕ). z % K .modulus) (omega arith) ∙ mod-self (K .modulus)
@@ -182,13 +163,14 @@ evaluate-as-horner K cs c =
     ap (λ (z : ℕ). (z + lowerTerms (residue K c) cs) % K .modulus) (sym (one-mul (residue K c ^ length cs)))
     ∙ ap (λ (z : ℕ). z % K .modulus) (value-as-horner (residue K c) 1 cs)
 
--- The value of a sketch's coefficients is Horner's value of the recurrence's solution.
-pub evaluate-solution : (K : Kind) (s : Sketch) (c : ℕ)
-    → evaluate K (coefficients K s) c ≡ horner (solution K (s .sums)) (residue K c) (s .count) % K .modulus
-evaluate-solution K s c =
-    evaluate-as-horner K (coefficients K s) c ∙ ap (λ (n : ℕ). horner (entry (1 ∷ coefficients K s)) (residue K c) n % K .modulus) (coefficients-length K s)
-    ∙ horner-congruent (K .modulus) (entry (1 ∷ coefficients K s)) (solution K (s .sums)) (residue K c) (s .count) same
+-- The value of the coefficients is Horner's value of the recurrence's solution.
+pub evaluate-solution : (K : Kind) (sums : List ℕ) (n c : ℕ)
+    → evaluate K (coefficients K sums n) c ≡ horner (solution K sums) (residue K c) n % K .modulus
+evaluate-solution K sums n c =
+    evaluate-as-horner K (coefficients K sums n) c
+    ∙ ap (λ (m : ℕ). horner (entry (1 ∷ coefficients K sums n)) (residue K c) m % K .modulus) (coefficients-length K sums n)
+    ∙ horner-congruent (K .modulus) (entry (1 ∷ coefficients K sums n)) (solution K sums) (residue K c) n same
   where
-    same : (j : ℕ) → j ≤ s .count → entry (1 ∷ coefficients K s) j % K .modulus ≡ solution K (s .sums) j % K .modulus
+    same : (j : ℕ) → j ≤ n → entry (1 ∷ coefficients K sums n) j % K .modulus ≡ solution K sums j % K .modulus
     same zero l = refl
-    same (suc j) l = ap (λ (z : ℕ). z % K .modulus) (coefficient-is-solution K s j l)
+    same (suc j) l = ap (λ (z : ℕ). z % K .modulus) (coefficient-is-solution K sums n j l)

@@ -1,6 +1,6 @@
 -- A buffer of 262,144 bytes holds the desk program's answer to any input, at any kind whose codes have at most eight bytes.
 -- Assumes nothing.
-use Prim.Native.Nat.{ℕ, suc, _+_, _-_, _^_, _≤_, _<_, zero-le}
+use Prim.Native.Nat.{ℕ, suc, _^_, _≤_, _<_, zero-le}
 use mathlib.Core.Path.{_≡_, refl}
 use mathlib.Core.Bool.{Bool, true, false, cond, _&&_}
 use mathlib.Core.List.{List, [], _∷_, _++_}
@@ -17,8 +17,10 @@ use Rattle.rules.specs.Decode as decoding
 use Rattle.rules.specs.Decode.{evaluate, coefficients, keep}
 use Rattle.rules.specs.Calls as calls
 use Rattle.rules.specs.Calls.{Outcome, refused, given, unless}
-use Rattle.rules.specs.Lines.{Line, threshold, log, got, bad, some, none, wellBegun, allDigits, decimalValue, greatestNumber, number, valued, keyed, orElse, thresholdWord, logWord, gotWord, parsed, cut}
-use Rattle.rules.specs.Desk.{mostLines, Seen, unbegun, logs, gots, stopped, next, allLines, closed, readLines, sketchOfCodes, Report, reported, decided, outcome}
+use Rattle.rules.specs.Lines.{Line, threshold, log, got, bad, some, none, wellBegun, allDigits, decimalValue, greatestNumber, number, valued, keyed}
+use Rattle.rules.specs.Lines.{orElse, thresholdWord, logWord, gotWord, parsed, cut}
+use Rattle.rules.specs.Desk.{mostLines, Seen, unbegun, logs, gots, stopped, next, allLines, closed, readLines, sketchOfCodes, Report, reported, decided}
+use Rattle.rules.specs.Desk.{outcome}
 use Rattle.rules.specs.Text.{refusalWord, countWord, foundWord, missingWord, printed, deskAnswer}
 use Rattle.rules.proofs.Each.{and-second}
 use Rattle.rules.proofs.Text.{line-short, lines-short}
@@ -45,9 +47,9 @@ pub decode-fewer : (K : Kind) (s : Sketch) (l : List ℕ) → length (decoding.d
 unfolding decoding.decode
 decode-fewer K s l = by-count (eqb (s .count) 0)
   where
-    by-count : (none : Bool) → length (cond none [] (keep (λ c. eqb (evaluate K (coefficients K s) c) 0) l)) ≤ length l
+    by-count : (none : Bool) → length (cond none [] (keep (λ c. eqb (evaluate K (coefficients K (s .sums) (s .count)) c) 0) l)) ≤ length l
     by-count true = zero-le
-    by-count false = keep-fewer (λ c. eqb (evaluate K (coefficients K s) c) 0) l
+    by-count false = keep-fewer (λ c. eqb (evaluate K (coefficients K (s .sums) (s .count)) c) 0) l
 
 -- ---- what a line says
 
@@ -152,9 +154,9 @@ module _ (K : Kind) (narrow : 256 ^ K .codeBytes ≤ 10 ^ 20) where
   unfolding decoding.decode
   decode-small s l small = by-count (eqb (s .count) 0)
     where
-      by-count : (none : Bool) → AllSmall (cond none [] (keep (λ c. eqb (evaluate K (coefficients K s) c) 0) l))
+      by-count : (none : Bool) → AllSmall (cond none [] (keep (λ c. eqb (evaluate K (coefficients K (s .sums) (s .count)) c) 0) l))
       by-count true = tt
-      by-count false = keep-small (λ c. eqb (evaluate K (coefficients K s) c) 0) l small
+      by-count false = keep-small (λ c. eqb (evaluate K (coefficients K (s .sums) (s .count)) c) 0) l small
 
   -- What is told has few digits and few entries.
   abbrev Tells : Outcome Report → Type 0
@@ -203,4 +205,5 @@ module _ (K : Kind) (narrow : 256 ^ K .codeBytes ≤ 10 ^ 20) where
   unfolding deskAnswer readLines
   answer-short input =
       printed-short (outcome K (readLines K (cut input)))
-      (tells-outcome (readLines K (cut input)) (holds-closed (allLines K unbegun (cut input .whole)) (cut input .rest) (holds-lines unbegun (cut input .whole) tt)))
+      (tells-outcome (readLines K (cut input)) (holds-closed (allLines K unbegun (cut input .whole)) (cut input .rest)
+      (holds-lines unbegun (cut input .whole) tt)))

@@ -30,9 +30,11 @@ unfolding decimal decimalWithin
 decimal-step zero = refl
 decimal-step (suc k) = rw (enough k (suc k / 10) (suc k / 10) (omega arith) (omega arith))
 
+-- A number below ten has one digit.
 pub decimal-digit : (n : ℕ) → n < 10 → decimal n ≡ lastDigit n ∷ []
 decimal-digit n l = rw (decimal-step n, lt-ltb n 10 l)
 
+-- The digits of a number from ten on are those of its tenth, and then the last one.
 pub decimal-digits : (n : ℕ) → 10 ≤ n → decimal n ≡ decimal (n / 10) ++ (lastDigit n ∷ [])
 decimal-digits n l = rw (decimal-step n, le-ltb n 10 l)
 
@@ -48,10 +50,12 @@ decimal-short (suc j) n u = one-more n (suc j) (ltb n 10) refl (decimal-short j 
 
 -- ---- lines
 
+-- A line is as long as its word, the digits of its number, and one LF.
 pub line-length : (word : List ℕ) (n : ℕ) → length (line word n) ≡ length word + length (decimal n) + 1
 unfolding line
 line-length word n = simp length-append (omega arith)
 
+-- The lines of two lists together are theirs, one behind the other.
 pub lines-append : (word xs ys : List ℕ) → lines word (xs ++ ys) ≡ lines word xs ++ lines word ys
 unfolding lines
 lines-append word [] ys = refl
@@ -76,6 +80,7 @@ lines-part word xs i =
 pub line-short : (word : List ℕ) (n : ℕ) → n < 10 ^ 20 → length (line word n) ≤ length word + 21
 line-short word n u = omega (arith, line-length word n, decimal-short 19 n u)
 
+-- Lines of such numbers have at most 21 bytes each beside the word.
 pub lines-short : (word xs : List ℕ) → AllBelow (10 ^ 20) xs → length (lines word xs) ≤ (length word + 21) * length xs
 unfolding lines
 lines-short word [] below = zero-le

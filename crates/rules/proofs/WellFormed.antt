@@ -3,20 +3,24 @@
 use Prim.Native.Nat.{ℕ, zero, suc, _+_, _-_, _^_, _<_, _≤_, min}
 use mathlib.Core.Path.{_≡_, refl, _∙_, ap₂}
 use mathlib.Core.Bool.{Bool, true, false, cond, _&&_}
-use mathlib.Core.List.{List, [], _∷_, _++_}
+use mathlib.Core.List.{List, [], _∷_, _++_, append-nil}
 use native.Mathlib.Nat.{mod-lt, sub-zero, zero-sub, suc-sub-suc}
 use native.Mathlib.Omega.{arith}
 use lib.Dec.{leb, ltb, eqb}
-use lib.ListN.{length, getD, take, drop, replicate, length-replicate, length-take, take-append-drop}
+use lib.ListN.{length, getD, take, drop, replicate, length-replicate, replicate-append-replicate, length-take}
 use lib.Seq.{length-take-le}
 use borrow.Author.Tests.{lt-ltb, le-ltb, le-leb, ltb-true, leb-true, eqb-true}
 use Rattle.numbers.specs.Table.{every}
 use Rattle.newton.specs.Members.{AllBelow}
 use Rattle.rules.specs.Kind.{Kind, counts}
-use Rattle.rules.specs.Field.{residue}
-use Rattle.rules.specs.Sketch.{Last, nothing, code, Sketch, inRange, placeFits, lastFits, wellFormed, placed, WellFormed, fresh, insert, lastWithout, remove, subtract, cut}
+use Rattle.rules.specs.Field.{residue, minus}
+use Rattle.rules.specs.Sketch.{Last, nothing, code, Sketch, inRange, placeFits, lastFits, wellFormed, placed, WellFormed, each, fresh, insert}
+use Rattle.rules.specs.Sketch.{lastWithout, remove, subtract, cut}
+use Rattle.rules.specs.Sums.{allBelow, copied, differences}
 use Rattle.rules.proofs.Field.{positive, residue-below, plus-below, minus-below}
-use Rattle.rules.proofs.Each.{each-length, each-below, and-first, and-second, zeros-below, take-below}
+use Rattle.rules.proofs.Mapping.{copied-whole}
+use Rattle.rules.proofs.Changing.{differences-length, differences-first}
+use Rattle.rules.proofs.Each.{each-length, each-below, and-first, and-second, zeros-below, take-below, append-below, below-every}
 
 module _ (K : Kind) where
   -- ---- every call keeps a sketch well formed
@@ -33,6 +37,22 @@ module _ (K : Kind) where
     last-fits = refl;
   }
 
+  -- What an insertion, a removal and a subtraction make of sums is below the prime, whatever they were.
+  pub inserted-below : (s : Sketch) (c : ℕ) → AllBelow (K .modulus) (insert K s c .sums)
+  unfolding insert
+  inserted-below s c = each-below _ (K .modulus) (λ k sum. plus-below K sum (residue K c ^ k)) 1 (s .sums)
+
+  -- The sums after a removal are below the prime.
+  pub removed-below : (s : Sketch) (c : ℕ) → AllBelow (K .modulus) (remove K s c .sums)
+  unfolding remove
+  removed-below s c = each-below _ (K .modulus) (λ k sum. minus-below K sum (residue K c ^ k)) 1 (s .sums)
+
+  -- The sums after a subtraction are below the prime.
+  pub subtracted-below : (s o : Sketch) → AllBelow (K .modulus) (subtract K s o .sums)
+  unfolding subtract
+  subtracted-below s o =
+      each-below _ (K .modulus) (λ k sum. minus-below K sum (getD (o .sums) k 0)) 0 (take (min (s .threshold) (o .threshold)) (s .sums))
+
   -- An insertion keeps a sketch well formed.
   pub insert-well-formed : (s : Sketch) (c : ℕ) → WellFormed K s → WellFormed K (insert K s c)
   unfolding insert
@@ -40,7 +60,7 @@ module _ (K : Kind) where
     at-least = w .at-least;
     at-most = w .at-most;
     as-many = each-length _ 1 (s .sums) ∙ w .as-many;
-    sums-below = each-below _ (K .modulus) (λ k sum. plus-below K sum (residue K c ^ k)) 1 (s .sums);
+    sums-below = inserted-below s c;
     count-below = mod-lt (s .count + 1) (omega arith);
     last-fits = lt-ltb _ _ (residue-below K c);
   }
@@ -60,7 +80,7 @@ module _ (K : Kind) where
     at-least = w .at-least;
     at-most = w .at-most;
     as-many = each-length _ 1 (s .sums) ∙ w .as-many;
-    sums-below = each-below _ (K .modulus) (λ k sum. minus-below K sum (residue K c ^ k)) 1 (s .sums);
+    sums-below = removed-below s c;
     count-below = mod-lt _ (omega arith);
     last-fits = last-without-fits (s .last) c (w .last-fits);
   }
@@ -73,7 +93,7 @@ module _ (K : Kind) where
     at-most = omega arith;
     as-many = each-length _ 0 (take (min (s .threshold) (o .threshold)) (s .sums))
         ∙ length-take-le (min (s .threshold) (o .threshold)) (s .sums) (omega arith);
-    sums-below = each-below _ (K .modulus) (λ k sum. minus-below K sum (getD (o .sums) k 0)) 0 (take (min (s .threshold) (o .threshold)) (s .sums));
+    sums-below = subtracted-below s o;
     count-below = mod-lt _ (omega arith);
     last-fits = refl;
   }
@@ -104,6 +124,50 @@ module _ (K : Kind) where
   sums-fit threshold n k (s ∷ ss) below e =
       let t : k < threshold = omega arith in
       rw (lt-ltb k threshold t, lt-ltb s (K .modulus) (below .0)) (sums-fit threshold n (suc k) ss (below .1) (omega arith))
+
+  -- The sums of a fresh sketch, put into places, are all zeros.
+  pub placed-zeros : (threshold : ℕ) → threshold ≤ K .greatest → placed K (replicate threshold 0) ≡ replicate (K .greatest) 0
+  placed-zeros threshold l =
+      let sum : threshold + (K .greatest - threshold) ≡ K .greatest = omega arith in
+      rw (length-replicate, replicate-append-replicate, sum)
+
+  -- Sums over the first of as many zeros as there are places are placed.
+  pub placed-on-zeros : (n : ℕ) (sums : List ℕ) → length sums ≡ n → sums ++ drop n (replicate (K .greatest) 0) ≡ placed K sums
+  placed-on-zeros n sums e = rw (e, drop-zeros (K .greatest) n)
+    where
+      drop-zeros : (m n : ℕ) → drop {A = ℕ} n (replicate m 0) ≡ replicate (m - n) 0
+      drop-zeros m zero = rw sub-zero
+      drop-zeros zero (suc n) = rw zero-sub
+      drop-zeros (suc m) (suc n) = rw suc-sub-suc (drop-zeros m n)
+
+  -- So are the differences of the first m numbers of a list and the first n of another, as many as both have.
+  pub placed-differences : (t m n : ℕ) (l o : List ℕ) → t ≡ min m n → m ≤ length l → n ≤ length o → m ≤ K .greatest
+      → copied (take t (replicate (K .greatest) 0)) (differences K l o) ++ drop t (replicate (K .greatest) 0)
+      ≡ placed K (each (λ (k s : ℕ). minus K s (getD (take n o) k 0)) 0 (take (min m n) (take m l)))
+  placed-differences t m n l o e lm ln few =
+      let zeros : List ℕ = take t (replicate (K .greatest) 0) in
+      let long : length zeros ≡ t = length-take-le t (replicate (K .greatest) 0) (omega (arith, length-replicate {A = ℕ} (K .greatest) 0)) in
+      let first = differences-first K t m n l o (omega arith) (omega arith) (omega arith) (omega arith) in
+      let many : length (take t (differences K l o)) ≡ t = length-take-le t (differences K l o) (omega (arith, differences-length K l o)) in
+      rw (copied-whole zeros (differences K l o) (omega (arith, long, differences-length K l o)), long, ← e, ← first)
+      (placed-on-zeros t (take t (differences K l o)) many)
+
+  -- Sums below the prime, put into places, are.
+  pub placed-below : (sums : List ℕ) → AllBelow (K .modulus) sums → allBelow K (placed K sums) ≡ true
+  placed-below sums below =
+      below-every (K .modulus) 0 (placed K sums)
+      (append-below (K .modulus) sums _ below (zeros-below (K .modulus) (positive K) (K .greatest - length sums)))
+
+  -- The sums of a well-formed sketch pass the test.
+  pub well-formed-sums : (s : Sketch) → WellFormed K s → wellFormed K (s .threshold) (s .sums) (s .last) ≡ true
+  unfolding wellFormed
+  well-formed-sums s w =
+      rw (
+        le-leb 1 (s .threshold) (w .at-least),
+        le-leb (s .threshold) (K .greatest) (w .at-most),
+        rw append-nil at (sums-fit (s .threshold) 0 0 (s .sums) (w .sums-below) (omega arith)),
+        w .last-fits,
+      )
 
   -- A well-formed sketch, put into places, passes the test.
   pub placed-well-formed : (s : Sketch) → WellFormed K s → wellFormed K (s .threshold) (placed K (s .sums)) (s .last) ≡ true
@@ -168,22 +232,18 @@ module _ (K : Kind) where
     pub rest-is-zero : drop threshold places ≡ replicate (length places - threshold) 0
     rest-is-zero = fit-rest threshold 0 threshold places (sub-zero threshold) places-fit
 
-    module _ (full : length places ≡ K .greatest) where
-      taken : length (take threshold places) ≡ threshold
-      taken = length-take-le threshold places (omega (arith, threshold-in-range .1))
+    -- Places that pass the test, as many as the threshold says or more, hold a well-formed sketch.
+    pub well-formed-parts : threshold ≤ length places → (count : ℕ) → count < counts
+        → WellFormed K (record { threshold = threshold; sums = take threshold places; count = count; last = last })
+    well-formed-parts enough count l = record {
+      at-least = threshold-in-range .0;
+      at-most = threshold-in-range .1;
+      as-many = length-take-le threshold places enough;
+      sums-below = fit-sums threshold 0 threshold places (omega arith) places-fit;
+      count-below = l;
+      last-fits = last-code-fits;
+    }
 
-      -- The sums of places that pass the test, put into places, are the places.
-      pub placed-again : placed K (take threshold places) ≡ places
-      placed-again = rw (taken, ← full, ← rest-is-zero) (take-append-drop threshold places)
-
-      -- Places that pass the test hold a well-formed sketch.
-      pub well-formed-parts : (count : ℕ) → count < counts
-          → WellFormed K (record { threshold = threshold; sums = take threshold places; count = count; last = last })
-      well-formed-parts count l = record {
-        at-least = threshold-in-range .0;
-        at-most = threshold-in-range .1;
-        as-many = taken;
-        sums-below = fit-sums threshold 0 threshold places (omega arith) places-fit;
-        count-below = l;
-        last-fits = last-code-fits;
-      }
+    -- Other sums over the first of all the places of a struct, as many as there are, are placed as a sketch's are.
+    pub placed-over : length places ≡ K .greatest → (sums : List ℕ) → length sums ≡ threshold → sums ++ drop threshold places ≡ placed K sums
+    placed-over full sums e = rw (e, ← full, rest-is-zero)

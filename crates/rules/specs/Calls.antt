@@ -1,17 +1,17 @@
 -- The calls: what each is given when nothing is refused, and the number of the refusal otherwise, in the order of the table of refusals.
 -- Whether a sketch given is well formed is told by a Bool, since unused places are the struct's.
 -- Assumes nothing.
-use Prim.Native.Nat.{ℕ, zero, suc, min}
-use mathlib.Core.Bool.{Bool, cond, _&&_}
-use mathlib.Core.List.{List, [], _∷_, _++_}
+use Prim.Native.Nat.{ℕ, min}
+use mathlib.Core.Bool.{Bool, cond}
+use mathlib.Core.List.{List, _++_}
 use lib.Dec.{leb, ltb, eqb}
-use lib.ListN.{length, drop}
+use lib.ListN.{length, take, drop}
 use Rattle.numbers.specs.Table.{every}
 use Rattle.rules.specs.Kind.{Kind}
 use Rattle.rules.specs.Sketch as sketch
-use Rattle.rules.specs.Sketch.{Sketch, Last, nothing, code, inRange}
+use Rattle.rules.specs.Sketch.{Sketch, Last, nothing, code, noSketch, inRange}
 use Rattle.rules.specs.Decode as decoding
-use Rattle.rules.specs.Packet.{packet, packetLength, sumsAt, sumsIn, sumsOf, sketchIn}
+use Rattle.rules.specs.Packet.{packet, sumsAt, sumsIn, sumsOf, sketchIn}
 
 -- What a call comes to: the number of a refusal, or what it gives.
 pub data Outcome (A : Type 0) : Type 0 where
@@ -36,6 +36,16 @@ lengthOf (given l) = length l
 abbrev pub written : Outcome (List ℕ) → List ℕ → List ℕ
 written (refused n) buffer = buffer
 written (given l) buffer = l ++ drop (length l) buffer
+
+-- The sketch that is given, or none.
+abbrev pub sketchOr : Outcome Sketch → Sketch
+sketchOr (refused n) = noSketch
+sketchOr (given s) = s
+
+-- The sums of a sketch that is given.
+abbrev pub sumsGiven : Outcome Sketch → Outcome (List ℕ)
+sumsGiven (refused n) = refused n
+sumsGiven (given s) = given (s .sums)
 
 -- ---- sketches
 
@@ -63,7 +73,9 @@ sub K ok s o = unless ok 12 (given (sketch.subtract K s o))
 
 -- Coefficients, for a lent buffer of so many places: 12, then 4 where the count is above the threshold, then 5 where the places are fewer than the count.
 unfoldable pub coefficients : Kind → Bool → Sketch → ℕ → Outcome (List ℕ)
-coefficients K ok s places = unless ok 12 (unless (leb (s .count) (s .threshold)) 4 (unless (leb (s .count) places) 5 (given (decoding.coefficients K s))))
+coefficients K ok s places =
+    unless ok 12 (unless (leb (s .count) (s .threshold)) 4
+    (unless (leb (s .count) places) 5 (given (decoding.coefficients K (s .sums) (s .count)))))
 
 -- Evaluate: 11 where there is no coefficient, then 8 where one is the prime or more.
 unfoldable pub evaluate : Kind → List ℕ → ℕ → Outcome ℕ
@@ -75,10 +87,14 @@ decode K ok s log places = unless ok 12 (unless (leb (s .count) (s .threshold)) 
 
 -- ---- packets
 
--- The packet of a sketch with its first m sums: 3 where there is no last code, then 5 where the buffer is shorter than the packet.
+-- A list for a lent buffer of so many places: 5 where the places are fewer.
+abbrev pub fitting : List ℕ → ℕ → Outcome (List ℕ)
+fitting l room = unless (leb (length l) room) 5 (given l)
+
+-- The packet of a sketch with its first m sums, for a buffer of so many bytes: 3 where there is no last code, then 5.
 abbrev pub packed : Kind → Sketch → Last → ℕ → ℕ → Outcome (List ℕ)
 packed K s nothing m room = refused 3
-packed K s (code x) m room = unless (leb (packetLength K m) room) 5 (given (packet K s x m))
+packed K s (code x) m room = fitting (packet K (s .count) x (take m (s .sums))) room
 
 -- Write with the hint h, into a lent buffer of so many bytes: 12, then 3, then 5. The hint never changes the count.
 unfoldable pub writeWithHint : Kind → Bool → Sketch → ℕ → ℕ → Outcome (List ℕ)
@@ -93,3 +109,12 @@ unfoldable pub read : Kind → List ℕ → Outcome Sketch
 read K bs =
     unless (leb (sumsAt K) (length bs)) 6
     (unless (inRange K (sumsIn K (length bs))) 7 (unless (every (λ (k s : ℕ). ltb s (K .modulus)) 0 (sumsOf K bs)) 8 (given (sketchIn K bs))))
+
+-- A sketch whose sums go to so many lent places: 5, after every other refusal, where the places are fewer.
+abbrev pub within : Outcome Sketch → ℕ → Outcome Sketch
+within (refused n) places = refused n
+within (given s) places = unless (leb (s .threshold) places) 5 (given s)
+
+-- Read, its sums to go to so many lent places: 6, then 7, then 8, then 5.
+abbrev pub readFor : Kind → List ℕ → ℕ → Outcome Sketch
+readFor K bs places = within (read K bs) places

@@ -1,14 +1,14 @@
 -- The cases from the bench, as one table: what is computed from the rules, beside what the requirements say.
 -- Assumes nothing.
 use Prim.Native.Nat.{ℕ, zero, suc}
-use mathlib.Core.Bool.{Bool, true, false, _&&_}
+use mathlib.Core.Bool.{Bool, true, false, cond, _&&_}
 use mathlib.Core.List.{List, [], _∷_, _++_, map}
 use lib.Dec.{eqb}
 use lib.ListN.{replicate}
 use Rattle.numbers.specs.Power.{powerWithin, powerMod}
 use Rattle.rules.specs.Kind.{kind32}
 use Rattle.rules.specs.Field.{residue, plus, minus, times, power, multiplicationsWithin, multiplications, inverse}
-use Rattle.rules.specs.Sketch.{Sketch, Last, nothing, code, fresh, insert, remove}
+use Rattle.rules.specs.Sketch.{Sketch, Last, nothing, code, fresh, insert, remove, wellFormed}
 use Rattle.rules.specs.Calls as calls
 use Rattle.rules.specs.Calls.{Outcome, refused, given}
 
@@ -29,6 +29,7 @@ abbrev pub allHold : List Case → Bool
 allHold [] = true
 allHold (c ∷ cs) = sameList (c .computed) (c .said) && allHold cs
 
+-- The case of what is computed, beside what is said.
 abbrev gives : List ℕ → List ℕ → Case
 gives computed said = record { computed = computed; said = said }
 
@@ -121,7 +122,33 @@ limitCases =
     ∷ gives (reading (calls.read kind32 (replicate 8 0 ++ (251 ∷ 255 ∷ 255 ∷ 255 ∷ [])))) (8 ∷ [])
     ∷ []
 
+-- What evaluating gives: its refusal, and then the value.
+abbrev valuing : Outcome ℕ → List ℕ
+valuing (refused n) = n ∷ []
+valuing (given x) = 0 ∷ x ∷ []
+
+-- Beside the bench's: the least input that each test refuses, and the greatest beside it that it does not.
+unfoldable pub refusalCases : List Case
+unfolding inserts
+refusalCases =
+    let both = inserts (fresh 3) (10 ∷ 12 ∷ []) in
+    gives (reading (calls.make kind32 0)) (1 ∷ [])
+    ∷ gives (reading (calls.make kind32 33)) (1 ∷ [])
+    ∷ gives (reading (calls.make kind32 32)) (0 ∷ 32 ∷ [])
+    ∷ gives (reading (calls.subAssign kind32 true (fresh 1) (fresh 2))) (2 ∷ [])
+    ∷ gives (reading (calls.subAssign kind32 true (fresh 2) (fresh 1))) (2 ∷ [])
+    ∷ gives (reading (calls.sub kind32 true (fresh 2) (fresh 1))) (0 ∷ 1 ∷ [])
+    ∷ gives (listing (calls.coefficients kind32 true both 1)) (5 ∷ [])
+    ∷ gives (listing (calls.coefficients kind32 true both 2)) (0 ∷ 4294967269 ∷ 120 ∷ [])
+    ∷ gives (listing (calls.decode kind32 true both (1 ∷ 2 ∷ 10 ∷ []) 2)) (5 ∷ [])
+    ∷ gives (listing (calls.write kind32 true both 19)) (5 ∷ [])
+    ∷ gives (valuing (calls.evaluate kind32 [] 1)) (11 ∷ [])
+    ∷ gives (valuing (calls.evaluate kind32 (4294967291 ∷ []) 1)) (8 ∷ [])
+    ∷ gives (valuing (calls.evaluate kind32 (4294967290 ∷ []) 1)) (0 ∷ 0 ∷ [])
+    ∷ gives (map (λ (sum : ℕ). cond (wellFormed kind32 1 (sum ∷ []) nothing) 0 12) (4294967290 ∷ 4294967291 ∷ [])) (0 ∷ 12 ∷ [])
+    ∷ []
+
 -- The whole table.
 unfoldable pub cases : List Case
-unfolding fieldCases decodeCases removeCases packetCases limitCases
-cases = fieldCases ++ (decodeCases ++ (removeCases ++ (packetCases ++ limitCases)))
+unfolding fieldCases decodeCases removeCases packetCases limitCases refusalCases
+cases = fieldCases ++ (decodeCases ++ (removeCases ++ (packetCases ++ (limitCases ++ refusalCases))))

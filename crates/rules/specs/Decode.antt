@@ -2,7 +2,7 @@
 -- Assumes nothing.
 use Prim.Native.Nat.{ℕ, zero, suc, _+_, _*_, _%_, _^_}
 use mathlib.Core.Bool.{Bool, cond}
-use mathlib.Core.List.{List, [], _∷_}
+use mathlib.Core.List.{List, [], _∷_, reverse}
 use lib.Dec.{eqb}
 use lib.ListN.{length, getD}
 use Rattle.newton.specs.Polynomial.{lowerTerms}
@@ -23,14 +23,9 @@ newestFirst K sums (suc i) =
     let cs = newestFirst K sums i in
     times K (minus K (negative K (products sums cs)) (getD sums i 0)) (inverse K (suc i)) ∷ cs
 
--- A list the other way round, before another.
-abbrev pub turned : List ℕ → List ℕ → List ℕ
-turned [] bs = bs
-turned (a ∷ cs) bs = turned cs (a ∷ bs)
-
--- The coefficients a1 .. an of a sketch with the count n.
-unfoldable pub coefficients : Kind → Sketch → List ℕ
-coefficients K s = turned (newestFirst K (s .sums) (s .count)) []
+-- The coefficients a1 .. an that sums lead to.
+unfoldable pub coefficients : Kind → List ℕ → ℕ → List ℕ
+coefficients K sums n = reverse (newestFirst K sums n)
 
 -- The value of a1 .. an at a code with residue x: x^n + a1 · x^(n-1) + .. + an.
 unfoldable pub evaluate : Kind → List ℕ → ℕ → ℕ
@@ -41,6 +36,7 @@ abbrev pub keep : (ℕ → Bool) → List ℕ → List ℕ
 keep test [] = []
 keep test (c ∷ log) = cond (test c) (c ∷ keep test log) (keep test log)
 
--- What a sketch lists of a log: nothing for the count 0, whatever the sums; otherwise exactly the entries whose value is 0.
+-- What a sketch lists of a log: nothing for the count 0, whatever the sums; otherwise exactly the entries at which the value of its coefficients,
+-- as many as the count says, is 0.
 unfoldable pub decode : Kind → Sketch → List ℕ → List ℕ
-decode K s log = cond (eqb (s .count) 0) [] (keep (λ c. eqb (evaluate K (coefficients K s) c) 0) log)
+decode K s log = cond (eqb (s .count) 0) [] (keep (λ c. eqb (evaluate K (coefficients K (s .sums) (s .count)) c) 0) log)

@@ -40,6 +40,7 @@ next K (gots T l g) (got c) = gots T l (g ++ (c ∷ []))
 next K (gots T l g) bad = stopped 9
 next K (stopped n) line = stopped n
 
+-- What lines give, one after the other, behind those before.
 abbrev pub allLines : Kind → Seen → List (List ℕ) → Seen
 allLines K = foldl (λ (s : Seen) (line : List ℕ). next K s (parsed K line))
 
@@ -52,6 +53,7 @@ closed (gots T l g) [] = gots T l g
 closed (gots T l g) (b ∷ bs) = stopped 9
 closed (stopped n) rest = stopped n
 
+-- What a whole input gives: its whole lines, and then its end.
 unfoldable pub readLines : Kind → Cut → Seen
 readLines K t = closed (allLines K unbegun (t .whole)) (t .rest)
 
@@ -67,14 +69,17 @@ pub record Report : Type 0 where
   pub count : ℕ
   pub found : List ℕ
 
+-- The report of the entries found, or the refusal.
 abbrev pub reported : ℕ → ℕ → Outcome (List ℕ) → Outcome Report
 reported T count (refused n) = refused n
 reported T count (given found) = given (record { threshold = T; count = count; found = found })
 
--- The log is decoded by the sketch of the log lines less that of the got lines, into as many places as it has entries; 4 where the count is above the threshold.
+-- The log is decoded by the sketch of the log lines less that of the got lines, into as many places as it has entries; 4 where the count is above the
+-- threshold.
 unfoldable pub decided : Kind → ℕ → List ℕ → Sketch → Outcome Report
 decided K T l s = reported T (s .count) (calls.decode K true s l (length l))
 
+-- What an input comes to: the refusal by its first bad line, or what decoding its log gives.
 unfoldable pub outcome : Kind → Seen → Outcome Report
 outcome K unbegun = refused 9
 outcome K (logs T l) = decided K T l (subtract K (sketchOfCodes K T l) (sketchOfCodes K T []))

@@ -13,6 +13,7 @@ use Rattle.rules.specs.Kind.{Kind, bits}
 abbrev pub residue : Kind → ℕ → ℕ
 residue K c = c % K .modulus
 
+-- The sum of a and b modulo the prime.
 abbrev pub plus : Kind → ℕ → ℕ → ℕ
 plus K a b = (a + b) % K .modulus
 
@@ -20,12 +21,15 @@ plus K a b = (a + b) % K .modulus
 abbrev pub difference : ℕ → ℕ → ℕ → ℕ
 difference m a b = (a + (m - b % m)) % m
 
+-- The difference of a and b modulo the prime.
 abbrev pub minus : Kind → ℕ → ℕ → ℕ
 minus K a b = difference (K .modulus) a b
 
+-- The negative of a number: 0 less it.
 abbrev pub negative : Kind → ℕ → ℕ
 negative K a = minus K 0 a
 
+-- The product of a and b modulo the prime.
 abbrev pub times : Kind → ℕ → ℕ → ℕ
 times K a b = (a * b) % K .modulus
 

@@ -46,6 +46,7 @@ Allowed K (carried h m) = Allowed K h × (1 ≤ m) × HasLast (sketchOf K h .las
 
 -- The residues put in and taken out. Those of a sketch that is subtracted change sides.
 abbrev mutual
+  -- The residues put in, and those taken out of what is subtracted.
   pub putIn : Kind → History → List ℕ
   putIn K (fresh threshold) = []
   putIn K (insert h c) = residue K c ∷ putIn K h
@@ -54,6 +55,7 @@ abbrev mutual
   putIn K (sub h g) = putIn K h ++ takenOut K g
   putIn K (carried h m) = putIn K h
 
+  -- The residues taken out, and those put into what is subtracted.
   pub takenOut : Kind → History → List ℕ
   takenOut K (fresh threshold) = []
   takenOut K (insert h c) = takenOut K h

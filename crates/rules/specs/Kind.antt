@@ -5,7 +5,11 @@ use lib.Dec.{lit<, lit≤}
 use Rattle.numbers.specs.Prime.{IsPrime, p32}
 use Rattle.numbers.proofs.Primes.{prime-32}
 
--- Counts are of thirty-two bits at every width: they are kept modulo this number.
+-- Counts are of thirty-two bits at every width: so many bytes, and kept modulo this number.
+abbrev pub countBytes : ℕ
+countBytes = 4
+
+-- How many counts there are: 2^32.
 abbrev pub counts : ℕ
 counts = 4294967296
 

@@ -3,9 +3,12 @@ pub mod Kind
 pub mod Field
 pub mod Sketch
 pub mod Decode
+pub mod Sums
 pub mod Packet
 pub mod Calls
 pub mod History
+pub mod Words
+pub mod Run
 pub mod Determines
 pub mod Cases
 pub mod Lines

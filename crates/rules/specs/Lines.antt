@@ -23,9 +23,11 @@ LF = 10
 abbrev pub thresholdWord : List ℕ
 thresholdWord = bytesOf "threshold="
 
+-- The word of a log line.
 abbrev pub logWord : List ℕ
 logWord = bytesOf "log="
 
+-- The word of a got line.
 abbrev pub gotWord : List ℕ
 gotWord = bytesOf "got="
 
@@ -41,6 +43,7 @@ unfoldable pub inFront : ℕ → List (List ℕ) → List ℕ → Cut
 inFront b [] rest = record { whole = []; rest = b ∷ rest }
 inFront b (l ∷ ls) rest = record { whole = (b ∷ l) ∷ ls; rest = rest }
 
+-- An input, cut at each LF.
 unfoldable pub cut : List ℕ → Cut
 cut [] = record { whole = []; rest = [] }
 cut (b ∷ bs) = cond (eqb b LF) (record { whole = [] ∷ cut bs .whole; rest = cut bs .rest }) (inFront b (cut bs .whole) (cut bs .rest))
@@ -51,9 +54,11 @@ cut (b ∷ bs) = cond (eqb b LF) (record { whole = [] ∷ cut bs .whole; rest = 
 abbrev pub greatestNumber : Kind → ℕ
 greatestNumber K = 256 ^ K .codeBytes - 1
 
+-- Whether a byte is a decimal digit.
 abbrev pub isDigit : ℕ → Bool
 isDigit b = leb 48 b && leb b 57
 
+-- Whether every byte is a decimal digit, true for none.
 unfoldable pub allDigits : List ℕ → Bool
 allDigits [] = true
 allDigits (b ∷ bs) = isDigit b && allDigits bs
@@ -87,6 +92,7 @@ pub data Line : Type 0 where
   got : ℕ → Line
   bad : Line
 
+-- The line of a word with its number; bad where there is no number.
 abbrev pub valued : (ℕ → Line) → Number → Line
 valued key (some n) = key n
 valued key none = bad
@@ -104,5 +110,6 @@ orElse (log n) other = log n
 orElse (got n) other = got n
 orElse bad other = other
 
+-- What a line says: a threshold, a log entry or a got code by its word; any other line is bad.
 unfoldable pub parsed : Kind → List ℕ → Line
 parsed K bs = orElse (keyed K threshold thresholdWord bs) (orElse (keyed K log logWord bs) (keyed K got gotWord bs))

@@ -3,7 +3,7 @@
 use Prim.Native.Nat.{ℕ, zero, suc, _+_, _-_, _*_, _/_, _%_}
 use mathlib.Core.List.{List, [], _∷_, _++_}
 use lib.ListN.{length, take, drop}
-use Rattle.rules.specs.Kind.{Kind}
+use Rattle.rules.specs.Kind.{Kind, countBytes}
 use Rattle.rules.specs.Field.{residue}
 use Rattle.rules.specs.Sketch.{Sketch, code}
 
@@ -27,17 +27,17 @@ unfoldable pub allNumbers : ℕ → ℕ → List ℕ → List ℕ
 allNumbers w zero bs = []
 allNumbers w (suc n) bs = number (take w bs) ∷ allNumbers w n (drop w bs)
 
--- Where the sums begin: behind the count, in 4 bytes, and the last code.
+-- Where the sums begin: behind the count and the last code.
 abbrev pub sumsAt : Kind → ℕ
-sumsAt K = 4 + K .codeBytes
+sumsAt K = countBytes + K .codeBytes
 
 -- How long a packet with m sums is.
 abbrev pub packetLength : Kind → ℕ → ℕ
 packetLength K m = sumsAt K + m * K .codeBytes
 
--- The packet of a sketch with the last code x and its first m sums.
-unfoldable pub packet : Kind → Sketch → ℕ → ℕ → List ℕ
-packet K s x m = bytes 4 (s .count) ++ (bytes (K .codeBytes) x ++ allBytes (K .codeBytes) (take m (s .sums)))
+-- The packet of a count, a last code and sums.
+unfoldable pub packet : Kind → ℕ → ℕ → List ℕ → List ℕ
+packet K count x sums = bytes countBytes count ++ (bytes (K .codeBytes) x ++ allBytes (K .codeBytes) sums)
 
 -- How many sums so many bytes hold, rounded down.
 abbrev pub sumsIn : Kind → ℕ → ℕ
@@ -52,6 +52,6 @@ unfoldable pub sketchIn : Kind → List ℕ → Sketch
 sketchIn K bs = record {
   threshold = sumsIn K (length bs);
   sums = sumsOf K bs;
-  count = number (take 4 bs);
-  last = code (residue K (number (take (K .codeBytes) (drop 4 bs))));
+  count = number (take countBytes bs);
+  last = code (residue K (number (take (K .codeBytes) (drop countBytes bs))));
 }

@@ -16,12 +16,26 @@ pub data Last : Type 0 where
   nothing : Last
   code : ℕ → Last
 
+-- 1 for a last code, 0 for none; and the code, 0 for none.
+abbrev pub hasCode : Last → ℕ
+hasCode nothing = 0
+hasCode (code x) = 1
+
+-- The last code, 0 for none.
+abbrev pub codeOr0 : Last → ℕ
+codeOr0 nothing = 0
+codeOr0 (code x) = x
+
 -- A sketch has a threshold, as many sums, a count, and a last code or none.
 pub record Sketch : Type 0 where
   pub threshold : ℕ
   pub sums : List ℕ
   pub count : ℕ
   pub last : Last
+
+-- No sketch: threshold 0, no sums, count 0, no last code.
+abbrev pub noSketch : Sketch
+noSketch = record { threshold = 0; sums = []; count = 0; last = nothing }
 
 -- ---- well-formedness
 

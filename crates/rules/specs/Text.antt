@@ -3,10 +3,10 @@
 use Prim.Native.Nat.{ℕ, zero, suc, _+_, _/_, _%_}
 use mathlib.Core.Bool.{cond}
 use mathlib.Core.List.{List, [], _∷_, _++_}
-use lib.Dec.{leb, ltb}
+use lib.Dec.{ltb}
 use lib.ListN.{length}
 use Rattle.rules.specs.Kind.{Kind}
-use Rattle.rules.specs.Calls.{Outcome, refused, given, unless}
+use Rattle.rules.specs.Calls.{Outcome, refused, given}
 use Rattle.rules.specs.Lines.{bytesOf, LF, thresholdWord, cut}
 use Rattle.rules.specs.Desk.{Report, readLines, outcome}
 
@@ -32,12 +32,15 @@ decimal n = decimalWithin n n
 abbrev pub refusalWord : List ℕ
 refusalWord = bytesOf "refusal="
 
+-- The word of the line that says the count.
 abbrev pub countWord : List ℕ
 countWord = bytesOf "count="
 
+-- The word of the line that says how many entries are found.
 abbrev pub foundWord : List ℕ
 foundWord = bytesOf "found="
 
+-- The word of the line for each entry found.
 abbrev pub missingWord : List ℕ
 missingWord = bytesOf "missing="
 
@@ -62,7 +65,3 @@ printed (given r) =
 -- The program's whole output for a whole input.
 unfoldable pub deskAnswer : Kind → List ℕ → List ℕ
 deskAnswer K input = printed (outcome K (readLines K (cut input)))
-
--- A text for a lent buffer of so many bytes: 5 where the buffer is shorter.
-abbrev pub fitting : List ℕ → ℕ → Outcome (List ℕ)
-fitting text room = unless (leb (length text) room) 5 (given text)

@@ -16,15 +16,5 @@ returns-3 c = rw (c .before .enum-told3 .given .1, c .empty-desk3 .ensures)
 pub bad-line-spec : {M : Type 1} → statement M
 bad-line-spec =
     tie.close
-    (tie.spec
-    (λ c. search needs)
-    (λ c κs. tt)
-    (λ c. search needs)
-    (λ c κs. tt)
-    (λ c. search needs)
-    (λ c κs. tt)
-    (λ c. search needs)
-    returns
-    returns-2
-    returns-3
-    (λ c. search needs))
+    (tie.spec (λ c. search needs) (λ c κs. tt) (λ c. search needs) (λ c κs. tt) (λ c. search needs) (λ c κs. tt) (λ c. search needs) returns returns-2
+    returns-3 (λ c. search needs))

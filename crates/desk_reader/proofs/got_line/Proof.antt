@@ -13,16 +13,5 @@ returns-2 c = rw (c .before .enum-told2 .given .1, c .with-got2 .ensures)
 pub got-line-spec : {M : Type 1} → statement M
 got-line-spec =
     tie.close
-    (tie.spec
-    (λ c. search needs)
-    (λ c κs. tt)
-    (λ c. search needs)
-    (λ c κs. tt)
-    (λ c. search needs)
-    (λ c κs. tt)
-    (λ c. search needs)
-    (λ c κs. tt)
-    returns
-    returns-2
-    (λ c. search needs)
-    (λ c. search needs))
+    (tie.spec (λ c. search needs) (λ c κs. tt) (λ c. search needs) (λ c κs. tt) (λ c. search needs) (λ c κs. tt) (λ c. search needs) (λ c κs. tt)
+    returns returns-2 (λ c. search needs) (λ c. search needs))

@@ -7,14 +7,18 @@ use Rattle.desk_reader.proofs.line_byte.Statement.{statement}
 use Rattle.desk_reader.proofs.line_byte.Tie as tie
 
 returns : tie.Need-returns
-returns c = in-word _ (c .before .before .before .before .l .given .1) (c .before .before .word-len .ensures) (c .before .if1 .taken) (c .next-in-word .ensures)
+returns c =
+    let w = c .before .before in
+    in-word _ (w .before .before .l .given .1) (w .word-len .ensures) (c .before .if1 .taken) (c .next-in-word .ensures)
 
 returns-2 : tie.Need-returns-2
 unfolding lineByte
 returns-2 c = rw (c .before .enum-told .given .1, c .first-byte .ensures)
 
 returns-3 : tie.Need-returns-3
-returns-3 c = past-word _ (c .before .before .before .before .l .given .1) (c .before .before .word-len .ensures) (c .before .if1 .left) (c .first-digit .ensures)
+returns-3 c =
+    let w = c .before .before in
+    past-word _ (w .before .before .l .given .1) (w .word-len .ensures) (c .before .if1 .left) (c .first-digit .ensures)
 
 returns-4 : tie.Need-returns-4
 unfolding lineByte
@@ -27,18 +31,5 @@ returns-5 c = rw (c .enum-told2 .given .1)
 pub line-byte-spec : {M : Type 1} → statement M
 line-byte-spec =
     tie.close
-    (tie.spec
-    (λ c. search needs)
-    (λ c κs. tt)
-    (λ c. search needs)
-    (λ c κs. tt)
-    (λ c κs. search needs)
-    returns
-    (λ c κs. tt)
-    (λ c. search needs)
-    (λ c κs. tt)
-    (λ c. search needs)
-    returns-2
-    returns-3
-    returns-4
-    returns-5)
+    (tie.spec (λ c. search needs) (λ c κs. tt) (λ c. search needs) (λ c κs. tt) (λ c κs. search needs) returns (λ c κs. tt) (λ c. search needs)
+    (λ c κs. tt) (λ c. search needs) returns-2 returns-3 returns-4 returns-5)

@@ -16,7 +16,9 @@ abbrev μ-loop : tie.MeasureT-loop
 μ-loop log₀ piece desk₀ line₀ i₀ i-end log desk line i = i-end - i
 
 take-line-requires : tie.Need-take-line-requires Inv-loop μ-loop
-take-line-requires c κs = omega (arith, c .before .before .before .before .loop .inv .as-long, c .before .before .before .before .before .before .before .before .pre)
+take-line-requires c κs =
+    let k = c .before .before .before .before in
+    omega (arith, k .loop .inv .as-long, k .before .before .before .before .pre)
 
 loop-again : tie.Need-loop-again Inv-loop μ-loop
 loop-again c =
@@ -34,15 +36,5 @@ returns c = partly-done (c .before .loop .inv) (c .loop-test .left)
 pub take-bytes-spec : {M : Type 1} → statement M
 take-bytes-spec =
     tie.close
-    (tie.spec
-    Inv-loop
-    μ-loop
-    (λ c. partly-start)
-    (λ c. search needs)
-    take-line-requires
-    (λ c κs. tt)
-    (λ c. search needs)
-    (λ c. search needs)
-    loop-again
-    (λ c. search needs)
-    returns)
+    (tie.spec Inv-loop μ-loop (λ c. partly-start) (λ c. search needs) take-line-requires (λ c κs. tt) (λ c. search needs) (λ c. search needs)
+    loop-again (λ c. search needs) returns)

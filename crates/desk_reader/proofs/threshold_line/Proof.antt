@@ -16,18 +16,5 @@ returns-2 c =
 pub threshold-line-spec : {M : Type 1} → statement M
 threshold-line-spec =
     tie.close
-    (tie.spec
-    (λ c. search needs)
-    (λ c κs. tt)
-    returns
-    (λ c κs. tt)
-    (λ c. search needs)
-    (λ c κs. tt)
-    (λ c. search needs)
-    (λ c κs. tt)
-    (λ c. search needs)
-    (λ c κs. tt)
-    returns-2
-    (λ c. search needs)
-    (λ c. search needs)
-    (λ c. search needs))
+    (tie.spec (λ c. search needs) (λ c κs. tt) returns (λ c κs. tt) (λ c. search needs) (λ c κs. tt) (λ c. search needs) (λ c κs. tt)
+    (λ c. search needs) (λ c κs. tt) returns-2 (λ c. search needs) (λ c. search needs) (λ c. search needs))

@@ -25,13 +25,5 @@ returns-3 c = rw (c .before .before .enum-told3 .given .1)
 pub word-byte-spec : {M : Type 1} → statement M
 word-byte-spec =
     tie.close
-    (tie.spec
-    (λ c. search needs)
-    element-copy-out-result
-    (λ c. search needs)
-    element-copy-out-result-2
-    (λ c. search needs)
-    element-copy-out-result-3
-    returns
-    returns-2
-    returns-3)
+    (tie.spec (λ c. search needs) element-copy-out-result (λ c. search needs) element-copy-out-result-2 (λ c. search needs) element-copy-out-result-3
+    returns returns-2 returns-3)

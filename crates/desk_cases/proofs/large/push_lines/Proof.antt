@@ -18,14 +18,5 @@ abbrev μ-loop : tie.MeasureT-loop
 pub push-lines-spec : {M : Type 1} → statement M
 push-lines-spec =
     tie.close
-    (tie.spec
-    Inv-loop
-    μ-loop
-    (λ c. (counts _ _ (search needs), refl))
-    (λ c κs. search needs)
-    (λ c κs. tt)
-    (λ c. search needs)
-    (λ c. search needs)
-    (λ c. search needs)
-    (λ c. search needs)
-    (λ c. search needs))
+    (tie.spec Inv-loop μ-loop (λ c. (counts _ _ (search needs), refl)) (λ c κs. search needs) (λ c κs. tt) (λ c. search needs) (λ c. search needs)
+    (λ c. search needs) (λ c. search needs) (λ c. search needs))

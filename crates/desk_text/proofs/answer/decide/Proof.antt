@@ -6,9 +6,10 @@ use lib.ListN.{take, replicate}
 use lib.Seq.{length-take-le}
 use borrow.Author.Needs.{needs}
 use Rattle.rules.specs.Desk.{mostLines}
-use Rattle.subtract32.proofs.sub_assign.Reads as sub-assign
-use Rattle.decoder32.proofs.decode_with_log.Reads as decode-with-log
-use Rattle.desk_text.proofs.Decision.{Listed, listed-given, listed-few, listed-within, listed-taken, subtraction-refused, decoding-refused, decoding-listed}
+use Rattle.power_sum32.proofs.power_sum.PowerSumQuackU32.sub_assign.Reads as sub-assign
+use Rattle.power_sum32.proofs.power_sum.PowerSumQuackU32.decode_with_log.Reads as decode-with-log
+use Rattle.desk_text.proofs.Decision.{Listed, listed-given, listed-few, listed-within, listed-taken}
+use Rattle.desk_text.proofs.Decision.{subtraction-refused, decoding-refused, decoding-listed}
 use Rattle.desk_text.proofs.writer.write_refused.Reads as write-refused
 use Rattle.desk_text.proofs.writer.write_found.Reads as write-found
 use Rattle.desk_text.proofs.answer.decide.Reads as decide
@@ -64,8 +65,8 @@ abbrev start : lts.Else2 claims decide.Pre decide.Post → lts.Start claims deci
 start e = subtracted e .before .before .before .before .before
 
 listed : (e : lts.Else2 claims decide.Pre decide.Post)
-    → Listed (subtracted e .sub-assign .result .sketch) (take (start e .args .d .entries) (start e .args .log .now)) mostLines (replicate 8192 0) (decoded e .decode-with-log .result)
-    (decoded e .decode-with-log .last .1 .1 .0)
+    → Listed (subtracted e .sub-assign .result .sketch) (take (start e .args .d .entries) (start e .args .log .now)) mostLines (replicate 8192 0)
+    (decoded e .decode-with-log .result) (decoded e .decode-with-log .last .1 .1 .0)
 listed e = record { answer = decoded e .decode-with-log .ensures .0; buffer = decoded e .decode-with-log .ensures .1; ok = e .if2 .left }
 
 write-found-requires : tie.Need-write-found-requires
@@ -73,7 +74,13 @@ write-found-requires c κs =
     let h = listed (c .before .before) in
     let k = decoded (c .before .before) .decode-with-log in
     let s = start (c .before .before) in
-    omega (arith, length-take-le (k .result .value) (k .last .1 .1 .0) (listed-within h), listed-few h, length-take-le (s .args .d .entries) (s .args .log .now) (omega (arith, s .pre .0, s .pre .1)), s .pre .0)
+    omega (
+      arith,
+      length-take-le (k .result .value) (k .last .1 .1 .0) (listed-within h),
+      listed-few h,
+      length-take-le (s .args .d .entries) (s .args .log .now) (omega (arith, s .pre .0, s .pre .1)),
+      s .pre .0,
+    )
 
 returns-3 : tie.Need-returns-3
 returns-3 c =
@@ -81,25 +88,14 @@ returns-3 c =
     let z = w .before .before .before in
     let h = listed z in
     let s = start z in
-    let e = decoding-listed (s .args .d) (s .args .log .now) (subtracted z .sub-assign .ensures) (decoded z .before .before .before .before .if1 .left) (listed-given h) in
+    let e =
+    decoding-listed (s .args .d) (s .args .log .now) (subtracted z .sub-assign .ensures) (decoded z .before .before .before .before .if1 .left)
+    (listed-given h) in
     (rw e (rw (listed-taken h) at (w .write-found .ensures .0)), rw e (rw (listed-taken h) at (w .write-found .ensures .1)))
 
 pub decide-spec : {M : Type 1} → statement M
 decide-spec =
     tie.close
-    (tie.spec
-    (λ c κs. tt)
-    (λ c κs. tt)
-    (λ c. search needs)
-    returns
-    slice-aggregate-decode-with-log
-    (λ c. search needs)
-    (λ c κs. tt)
-    (λ c κs. tt)
-    (λ c. search needs)
-    returns-2
-    (λ c. listed-within (listed (c .before)))
-    (λ c. sym (length-take-le _ _ (listed-within (listed (c .before .before)))))
-    write-found-requires
-    (λ c. search needs)
-    returns-3)
+    (tie.spec (λ c κs. tt) (λ c κs. tt) (λ c. search needs) returns slice-aggregate-decode-with-log (λ c. search needs) (λ c κs. tt) (λ c κs. tt)
+    (λ c. search needs) returns-2 (λ c. listed-within (listed (c .before)))
+    (λ c. sym (length-take-le _ _ (listed-within (listed (c .before .before))))) write-found-requires (λ c. search needs) returns-3)

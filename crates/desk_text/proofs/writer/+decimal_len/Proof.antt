@@ -40,4 +40,5 @@ module _ (t : ℕ) where
   returns-2 c = omega (arith, c .decimal-len .ensures, more-digits (c .before .before .args .n) (c .before .if1 .left))
 
 pub +decimal-len-spec : {M : Type 1} → statement M
-+decimal-len-spec = close μ-decimal-len λ t. lts.spec (claims t) (decimal-len-at t) decimal-len.Post (returns t) (decimal-len-requires t) (add-result t) (returns-2 t)
++decimal-len-spec = close μ-decimal-len λ t.
+    lts.spec (claims t) (decimal-len-at t) decimal-len.Post (returns t) (decimal-len-requires t) (add-result t) (returns-2 t)

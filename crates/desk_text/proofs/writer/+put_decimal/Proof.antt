@@ -54,7 +54,9 @@ module _ (t : ℕ) where
       omega (arith, s .pre .1, more-digits (s .args .n) (e .if1 .left), k .put-decimal .ensures .ends, put-length (k .put-decimal .ensures))
 
   add-result-2 : lts.Need-add-result-2 (claims t) (put-decimal-at t) put-decimal.Post
-  add-result-2 c = record { fits = omega (arith, slice-write-out-2 c, put-length (c .before .before .before .put-decimal .ensures), c .before .before .before .before .before .before .before .good .0 .0) }
+  add-result-2 c =
+      let k = c .before .before .before in
+      record { fits = omega (arith, slice-write-out-2 c, put-length (k .put-decimal .ensures), k .before .before .before .before .good .0 .0) }
 
   same-length-2 : lts.Need-same-length-2 (claims t) (put-decimal-at t) put-decimal.Post
   same-length-2 c = simp length-set (put-length (c .before .before .before .put-decimal .ensures))
@@ -64,8 +66,10 @@ module _ (t : ℕ) where
       let k = c .before .before .before in
       let e = k .before .before in
       let s = e .before .before in
-      put-as (put-then (k .put-decimal .ensures) (put-byte (c .last-digit2 .result))) (rw (c .last-digit2 .ensures) (sym (decimal-digits (s .args .n) (e .if1 .left))))
+      put-as (put-then (k .put-decimal .ensures) (put-byte (c .last-digit2 .result)))
+      (rw (c .last-digit2 .ensures) (sym (decimal-digits (s .args .n) (e .if1 .left))))
 
 pub +put-decimal-spec : {M : Type 1} → statement M
 +put-decimal-spec = close μ-put-decimal λ t.
-    lts.spec (claims t) (put-decimal-at t) put-decimal.Post (λ c κs. tt) (slice-write-out t) (add-result t) (λ c. simp length-set) (returns t) (put-decimal-requires t) (λ c κs. tt) (slice-write-out-2 t) (add-result-2 t) (same-length-2 t) (returns-2 t)
+    lts.spec (claims t) (put-decimal-at t) put-decimal.Post (λ c κs. tt) (slice-write-out t) (add-result t) (λ c. simp length-set) (returns t)
+    (put-decimal-requires t) (λ c κs. tt) (slice-write-out-2 t) (add-result-2 t) (same-length-2 t) (returns-2 t)

@@ -13,24 +13,19 @@ returns c =
     let t = n .before .before in
     let r = t .before .before in
     let s = r .before .before .before in
-    omega (arith, found-length (s .args .threshold) (s .args .count) (s .args .found .now), r .line-len .ensures .0, t .line-len2 .ensures .0, n .line-len3 .ensures .0, f .line-len4 .ensures .0, c .lines-len .ensures .0)
+    omega (
+      arith,
+      found-length (s .args .threshold) (s .args .count) (s .args .found .now),
+      r .line-len .ensures .0,
+      t .line-len2 .ensures .0,
+      n .line-len3 .ensures .0,
+      f .line-len4 .ensures .0,
+      c .lines-len .ensures .0,
+    )
 
 pub found-len-spec : {M : Type 1} → statement M
 found-len-spec =
     tie.close
-    (tie.spec
-    (λ c. search needs)
-    (λ c κs. search needs)
-    (λ c. search needs)
-    (λ c κs. search needs)
-    (λ c. search needs)
-    (λ c. search needs)
-    (λ c κs. search needs)
-    (λ c. search needs)
-    (λ c. search needs)
-    (λ c κs. search needs)
-    (λ c. search needs)
-    (λ c. search needs)
-    (λ c κs. search needs)
-    (λ c. search needs)
-    returns)
+    (tie.spec (λ c. search needs) (λ c κs. search needs) (λ c. search needs) (λ c κs. search needs) (λ c. search needs) (λ c. search needs)
+    (λ c κs. search needs) (λ c. search needs) (λ c. search needs) (λ c κs. search needs) (λ c. search needs) (λ c. search needs)
+    (λ c κs. search needs) (λ c. search needs) returns)

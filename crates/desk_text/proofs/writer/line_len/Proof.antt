@@ -14,8 +14,10 @@ add-result-2 c = record { fits = omega (arith, c .decimal-len .ensures, few-digi
 
 returns : tie.Need-returns
 returns c =
-    let s = c .before .before in
-    (omega (arith, c .decimal-len .ensures, line-length (s .args .word .now) (s .args .n)), omega (arith, c .decimal-len .ensures, few-digits _ (s .fits .n .fits), s .pre))
+    let s = c .before .before in (
+      omega (arith, c .decimal-len .ensures, line-length (s .args .word .now) (s .args .n)),
+      omega (arith, c .decimal-len .ensures, few-digits _ (s .fits .n .fits), s .pre),
+    )
 
 pub line-len-spec : {M : Type 1} → statement M
 line-len-spec = tie.close (tie.spec (λ c κs. tt) add-result add-result-2 returns)

@@ -25,16 +25,5 @@ returns c = let k = c .before in (counting-done (k .loop .inv) (c .loop-test .le
 pub lines-len-spec : {M : Type 1} → statement M
 lines-len-spec =
     tie.close
-    (tie.spec
-    Inv-loop
-    μ-loop
-    (λ c. counting-start)
-    (λ c. search needs)
-    (λ c. search needs)
-    cast-line-len
-    (λ c κs. search needs)
-    (λ c. search needs)
-    (λ c. search needs)
-    (λ c. search needs)
-    loop-again
-    returns)
+    (tie.spec Inv-loop μ-loop (λ c. counting-start) (λ c. search needs) (λ c. search needs) cast-line-len (λ c κs. search needs) (λ c. search needs)
+    (λ c. search needs) (λ c. search needs) loop-again returns)

@@ -22,16 +22,6 @@ slice-write-out c = let k = c .before .before in omega (arith, k .before .pre, s
 pub put-spec : {M : Type 1} → statement M
 put-spec =
     tie.close
-    (tie.spec
-    Inv-loop
-    μ-loop
-    (λ c. storing-start)
-    (λ c. search needs)
-    add-k
-    slice-write-out
-    (λ c. search needs)
-    (λ c. search needs)
-    (λ c. storing-turn (c .before .before .loop .inv) (c .before .loop-test .taken))
-    (λ c. search needs)
-    (λ c. storing-length (c .before .loop .inv))
+    (tie.spec Inv-loop μ-loop (λ c. storing-start) (λ c. search needs) add-k slice-write-out (λ c. search needs) (λ c. search needs)
+    (λ c. storing-turn (c .before .before .loop .inv) (c .before .loop-test .taken)) (λ c. search needs) (λ c. storing-length (c .before .loop .inv))
     (λ c. storing-done (c .before .loop .inv) (c .loop-test .left)))

@@ -38,7 +38,8 @@ put-lines-requires c κs =
     let p₂ = p₃ .before .before .before .before .before in
     let p₁ = p₂ .before .before .before .before .before in
     let s = p₁ .before .before .before .before .before in
-    room-missing (s .args .threshold) (s .args .count) (s .args .found .now) (s .pre) (p₁ .put-line .ensures) (p₂ .put-line2 .ensures) (p₃ .put-line3 .ensures) (p₄ .put-line4 .ensures)
+    room-missing (s .args .threshold) (s .args .count) (s .args .found .now) (s .pre) (p₁ .put-line .ensures) (p₂ .put-line2 .ensures)
+    (p₃ .put-line3 .ensures) (p₄ .put-line4 .ensures)
 
 returns : tie.Need-returns
 returns c =
@@ -48,21 +49,11 @@ returns c =
     let p₂ = p₃ .before .before .before .before .before in
     let p₁ = p₂ .before .before .before .before .before in
     let s = p₁ .before .before .before .before .before in
-    all-put (s .args .threshold) (s .args .count) (s .args .found .now) (s .pre) (p₁ .put-line .ensures) (p₂ .put-line2 .ensures) (p₃ .put-line3 .ensures) (p₄ .put-line4 .ensures) (p₅ .put-lines .ensures)
+    all-put (s .args .threshold) (s .args .count) (s .args .found .now) (s .pre) (p₁ .put-line .ensures) (p₂ .put-line2 .ensures)
+    (p₃ .put-line3 .ensures) (p₄ .put-line4 .ensures) (p₅ .put-lines .ensures)
 
 pub put-found-spec : {M : Type 1} → statement M
 put-found-spec =
     tie.close
-    (tie.spec
-    (λ c. search needs)
-    put-line-requires
-    (λ c. search needs)
-    put-line-requires-2
-    (λ c. search needs)
-    put-line-requires-3
-    (λ c. search needs)
-    put-line-requires-4
-    (λ c. search needs)
-    put-lines-requires
-    (λ c. search needs)
-    returns)
+    (tie.spec (λ c. search needs) put-line-requires (λ c. search needs) put-line-requires-2 (λ c. search needs) put-line-requires-3
+    (λ c. search needs) put-line-requires-4 (λ c. search needs) put-lines-requires (λ c. search needs) returns)

@@ -22,7 +22,15 @@ put-requires-2 c κs =
     let d = c .before .before .before .before in
     let p = d .before .before .before .before in
     let s = p .before .before .before .before in
-    omega (arith, s .pre, line-length (s .args .word .now) (s .args .n), p .put .ensures .ends, put-length (p .put .ensures), d .put-decimal .ensures .ends, put-length (d .put-decimal .ensures))
+    omega (
+      arith,
+      s .pre,
+      line-length (s .args .word .now) (s .args .n),
+      p .put .ensures .ends,
+      put-length (p .put .ensures),
+      d .put-decimal .ensures .ends,
+      put-length (d .put-decimal .ensures),
+    )
 
 returns : tie.Need-returns
 unfolding line

@@ -30,16 +30,5 @@ loop-again c =
 pub put-lines-spec : {M : Type 1} → statement M
 put-lines-spec =
     tie.close
-    (tie.spec
-    Inv-loop
-    μ-loop
-    (λ c. listing-start)
-    (λ c. search needs)
-    (λ c. search needs)
-    cast-put-line
-    put-line-requires
-    (λ c. search needs)
-    (λ c. search needs)
-    loop-again
-    (λ c. listing-length (c .before .loop .inv))
-    (λ c. listing-done (c .before .loop .inv) (c .loop-test .left)))
+    (tie.spec Inv-loop μ-loop (λ c. listing-start) (λ c. search needs) (λ c. search needs) cast-put-line put-line-requires (λ c. search needs)
+    (λ c. search needs) loop-again (λ c. listing-length (c .before .loop .inv)) (λ c. listing-done (c .before .loop .inv) (c .loop-test .left)))

@@ -1,25 +1,61 @@
--- The call on the sketch that the words say, and its answer put over them.
+-- Words that do not fit are refused; otherwise the count and the last code are stored, and the powers are taken from the sums where they stand.
 -- Assumes nothing.
-use mathlib.Core.Path.{_≡_, _∙_}
+use Prim.Native.Nat.{ℕ}
+use mathlib.Core.Path.{_∙_, ap, ap₂}
+use mathlib.Core.Bool.{cond}
+use native.Mathlib.Nat.{add-sub-cancel-left}
+use native.Mathlib.Omega.{arith}
+use lib.Dec.{eqb}
 use borrow.Author.Needs.{needs}
-use Rattle.power_sum32.specs.Answers.{removeOf}
-use Rattle.exports32.specs.Structs.{structIn}
-use Rattle.exports32.proofs.Outcomes.{remove-in, remove-own, kept}
+use Rattle.modint32.specs.Answers.{val}
+use Rattle.rules.specs.Kind.{kind32, counts}
+use Rattle.rules.specs.Field.{difference}
+use Rattle.rules.proofs.Field.{count-down}
+use Rattle.exports32.proofs.Heads.{Heads, heads, misfits}
+use Rattle.rules.proofs.Exported.{as-many, refuses, remove-misfit, remove-stores}
 use Rattle.exports32.proofs.power_sum.eddy32_remove.Statement.{statement}
 use Rattle.exports32.proofs.power_sum.eddy32_remove.Tie as tie
 
-answer : (c : tie.After-remove) → let a = c .before .before .before .before .args in c .remove .result ≡ removeOf (structIn (a .s .now)) (record { 0 = a .code })
-answer c = c .remove .ensures ∙ rw (c .before .from-words .ensures)
+module _ (c : tie.Else1) where
+  abbrev start : tie.Start
+  start = c .before .before .before .before .before
 
-store-requires : tie.Need-store-requires
-store-requires c κs = let a = c .before .before .before .before .before .args in rw (answer (c .before)) (remove-in (a .s .now) (record { 0 = a .code }) .fits)
+  head : Heads (start .args .s .now) (c .before .before .head-of .result)
+  head = heads (start .args .s .now) (c .before .before .head-of .ensures) (c .if1 .left)
 
 returns : tie.Need-returns
 returns c =
-    let s = c .before .before in
-    let i = s .before .before in
-    let a = i .before .before .before .before .args in
-    kept (a .s .now) (answer i) (remove-in (a .s .now) (record { 0 = a .code })) (remove-own (a .s .now) (a .code)) (s .store .ensures)
+    let h = c .before .before in
+    let a = h .before .before .before .args in
+    refuses (a .s .now) (remove-misfit kind32 (a .s .now) (misfits (a .s .now) (h .head-of .ensures) (c .if1 .taken)) (a .code))
+
+-- The words in use are still there.
+end : tie.Need-part-shift-by-powers-end
+end c =
+    let p = c .before .before in
+    let e = p .before .before .before .before .before .before .before in
+    omega (arith, head e .enough, as-many (start e .args .s .now) _ _ _ _ (p .put-head .ensures))
+
+returns-2 : tie.Need-returns-2
+returns-2 c =
+    let m = c .before .before in
+    let p = m .before .before .before .before in
+    let l = p .before .before in
+    let f = l .before in
+    let n = f .before in
+    let x = n .before .before in
+    let e = x .before in
+    let h = head e in
+    let code = start e .args .code in
+    remove-stores kind32 (start e .args .s .now) (h .ok) code (h .threshold) (add-sub-cancel-left 4 _)
+    (count-down _ 1 _ (n .wrapping-sub-u32 .ensures) (search needs) (search needs) ∙ ap (λ (k : ℕ). difference counts k 1) (h .count))
+    (f .unless-last .ensures ∙ ap₂ (λ (y z : ℕ). cond (eqb y code) 0 z) (h .last) (h .has))
+    (l .unless-last2 .ensures ∙ ap (λ (y : ℕ). cond (eqb y code) 0 y) (h .last)) (p .put-head .ensures)
+    (ap val (x .reduce .ensures)) (m .shift-by-powers .ensures)
 
 pub eddy32-remove-spec : {M : Type 1} → statement M
-eddy32-remove-spec = tie.close (tie.spec (λ c κs. tt) (λ c κs. tt) store-requires (λ c. search needs) returns)
+eddy32-remove-spec =
+    tie.close
+    (tie.spec (λ c κs. tt) (λ c. search needs) returns (λ c κs. tt) (λ c. omega (arith, head (c .before .before) .most)) (λ c κs. tt) (λ c κs. tt)
+    (λ c κs. tt) (λ c κs. let h = head (c .before .before .before .before .before .before) in (omega (arith, h .enough), omega (arith, h .most)))
+    (λ c. search needs) (λ c. search needs) end (λ c κs. tt) (λ c. search needs) returns-2)

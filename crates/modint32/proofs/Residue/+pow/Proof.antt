@@ -89,9 +89,11 @@ module _ (t : ℕ) where
       let e = k .before .before .before .args .exponent in
       let l = large (k .before) in
       made b e
-      (power-odd-step kind32 b e (root b e l (k .pow .ensures)) (ap val (c .before .before .before .mul .ensures)) (ap val (c .before .mul2 .ensures)) (c .before .before .if3 .left))
+      (power-odd-step kind32 b e (root b e l (k .pow .ensures)) (ap val (c .before .before .before .mul .ensures)) (ap val (c .before .mul2 .ensures))
+      (c .before .before .if3 .left))
       (omega (arith, count b e l (k .pow .ensures), c .before .before .if3 .left, mod-lt e {m = 2} (omega arith)))
 
 pub +pow-spec : {M : Type 1} → statement M
 +pow-spec = close μ-pow λ t.
-    pow-lts.spec (claims t) (pow-at t) pow.Post (returns t) (λ c κs. tt) (returns-2 t) (pow-requires t) (λ c κs. tt) (add-one t) (returns-3 t) (λ c κs. tt) (add-two t) (returns-4 t)
+    pow-lts.spec (claims t) (pow-at t) pow.Post (returns t) (λ c κs. tt) (returns-2 t) (pow-requires t) (λ c κs. tt) (add-one t) (returns-3 t) (λ c κs. tt)
+    (add-two t) (returns-4 t)

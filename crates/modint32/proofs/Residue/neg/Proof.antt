@@ -1,11 +1,7 @@
--- The negative is the difference from zero.
+-- The residue of the number that `minus` gives.
 -- Assumes nothing.
-use mathlib.Core.Path.{_∙_}
 use Rattle.modint32.proofs.Residue.neg.Statement.{statement}
 use Rattle.modint32.proofs.Residue.neg.Tie as tie
 
-returns : tie.Need-returns
-returns c = c .sub .ensures ∙ rw (c .before .zero .ensures)
-
 pub neg-spec : {M : Type 1} → statement M
-neg-spec = tie.close (tie.spec (λ c κs. tt) (λ c κs. tt) returns)
+neg-spec = tie.close (tie.spec (λ c κs. tt) (λ c. rw (c .minus .ensures)))

@@ -1,12 +1,7 @@
--- The sum with the negative is below three times the prime, so its residue is what is left over.
+-- The residue of the number that `minus` gives.
 -- Assumes nothing.
-use borrow.Author.Needs.{needs}
 use Rattle.modint32.proofs.Residue.sub.Statement.{statement}
 use Rattle.modint32.proofs.Residue.sub.Tie as tie
 
-returns : tie.Need-returns
-returns c = rw (c .left-over .ensures)
-
 pub sub-spec : {M : Type 1} → statement M
-sub-spec =
-    tie.close (tie.spec (λ c. search needs) (λ c. search needs) (λ c. search needs) (λ c. search needs) (λ c κs. search needs) returns)
+sub-spec = tie.close (tie.spec (λ c κs. tt) (λ c. rw (c .minus .ensures)))

@@ -12,7 +12,8 @@ use Rattle.modint32.proofs.precompute.inverse_at.Tie as tie
 returns : tie.Need-returns
 returns c =
     let i = c .before .before .before .args .i in
-    ap wrap (inverse-entry kind32 val (wrap 0) (c .before .inverses .result) (c .before .inverses .ensures) i (omega (arith, c .before .inverses .ok .1 .0 .1, c .before .before .if1 .taken)))
+    ap wrap (inverse-entry kind32 val (wrap 0) (c .before .inverses .result) (c .before .inverses .ensures) i
+    (omega (arith, c .before .inverses .ok .1 .0 .1, c .before .before .if1 .taken)))
 
 returns-2 : tie.Need-returns-2
 returns-2 c = c .inv .ensures ∙ rw (c .before .add .ensures) (ap wrap (inverse-past kind32 (c .before .before .before .args .i)))
@@ -20,14 +21,5 @@ returns-2 c = c .inv .ensures ∙ rw (c .before .add .ensures) (ap wrap (inverse
 pub inverse-at-spec : {M : Type 1} → statement M
 inverse-at-spec =
     tie.close
-    (tie.spec
-    (λ c κs. tt)
-    (λ c. search needs)
-    (λ c. search needs)
-    returns
-    (λ c. search needs)
-    (λ c. search needs)
-    (λ c. search needs)
-    (λ c κs. tt)
-    (λ c κs. tt)
-    returns-2)
+    (tie.spec (λ c κs. tt) (λ c. search needs) (λ c. search needs) returns (λ c. search needs) (λ c. search needs) (λ c. search needs) (λ c κs. tt)
+    (λ c κs. tt) returns-2)

@@ -1,28 +1,31 @@
--- A fresh sketch, or the empty one where the threshold is out of range.
+-- Zeros, for a threshold in range.
 -- Assumes nothing.
-use mathlib.Core.Path.{sym, _∙_}
+use mathlib.Core.Path.{refl}
+use Rattle.numbers.specs.Table.{every}
 use Rattle.rules.specs.Kind.{kind32}
 use Rattle.rules.specs.Sketch.{fresh}
 use Rattle.rules.specs.Calls.{make}
-use Rattle.rules.proofs.WellFormed.{in-range-parts}
-use Rattle.rules.proofs.Sums.{fresh-places}
+use Rattle.rules.proofs.Tests.{passed, failed}
+use Rattle.rules.proofs.WellFormed.{in-range-parts, placed-zeros}
 use Rattle.power_sum32.specs.Answers.{newOf}
 use Rattle.power_sum32.proofs.power_sum.PowerSumQuackU32.new.Statement.{statement}
 use Rattle.power_sum32.proofs.power_sum.PowerSumQuackU32.new.Tie as tie
 
+requires : tie.Need-accepted-requires
+unfolding every
+requires c κs = refl
+
 returns : tie.Need-returns
-unfolding newOf make fresh
-returns c =
-    let s = c .before .before .before .before in
-    let t = s .args .threshold in
-    let ok = sym (c .before .before .in-range .ensures) ∙ c .before .if1 .taken in
-    c .answer-with .ensures ∙ rw (ok, fresh-places kind32 t (in-range-parts kind32 t ok .1), c .before .before .before .zero .ensures)
+unfolding newOf make
+returns c = rw (c .no-sketch .ensures, failed (c .before .before .in-range .ensures) (c .before .if1 .taken))
 
 returns-2 : tie.Need-returns-2
-unfolding newOf make
+unfolding newOf make fresh
 returns-2 c =
-    let out = sym (c .before .before .in-range .ensures) ∙ c .before .if1 .left in
-    c .answer-with2 .ensures ∙ rw (out, c .before .before .before .zero .ensures)
+    let i = c .before .before in
+    let t = i .before .args .threshold in
+    let range = passed (i .in-range .ensures) (c .before .if1 .left) in
+    rw (c .accepted .ensures, range, placed-zeros kind32 t (in-range-parts kind32 t range .1))
 
 pub new-spec : {M : Type 1} → statement M
-new-spec = tie.close (tie.spec (λ c κs. tt) (λ c κs. tt) (λ c κs. tt) (λ c κs. tt) returns returns-2)
+new-spec = tie.close (tie.spec (λ c κs. tt) (λ c κs. tt) returns requires returns-2)

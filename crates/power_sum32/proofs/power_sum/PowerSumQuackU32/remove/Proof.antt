@@ -1,19 +1,50 @@
--- The test, and then the core.
+-- The sums move down, the count by one, and the last code stays unless it is the code.
 -- Assumes nothing.
-use mathlib.Core.Path.{sym, _∙_}
-use Rattle.rules.specs.Calls.{remove}
-use Rattle.power_sum32.specs.Answers.{removeOf}
+use mathlib.Core.Path.{_≡_}
+use mathlib.Core.Bool.{true}
+use lib.Dec.{lit<}
+use borrow.Author.Needs.{needs}
+use Rattle.rules.specs.Kind.{kind32}
+use Rattle.rules.specs.Sketch.{remove}
+use Rattle.rules.specs.Calls as calls
+use Rattle.rules.proofs.Tests.{passed, failed}
+use Rattle.rules.proofs.Field.{count-down}
+use Rattle.rules.proofs.WellFormed.{removed-below, placed-below}
+use Rattle.power_sum32.specs.Answers.{view, wellFormedOf, removeOf}
 use Rattle.power_sum32.proofs.power_sum.PowerSumQuackU32.remove.Statement.{statement}
 use Rattle.power_sum32.proofs.power_sum.PowerSumQuackU32.remove.Tie as tie
 
+ok : (c : tie.Else1) → wellFormedOf (c .before .before .args .self) ≡ true
+ok c = passed (c .before .well-formed .ensures) (c .if1 .left)
+
 returns : tie.Need-returns
-unfolding removeOf remove
-returns c = c .answer-with .ensures ∙ rw (← c .before .before .before .well-formed .ensures, c .before .before .if1 .taken, c .before .removed .ensures)
+unfolding removeOf calls.remove
+returns c = rw (c .refused .ensures, failed (c .before .before .well-formed .ensures) (c .before .if1 .taken))
+
+requires : tie.Need-accepted-requires
+unfolding remove
+requires c κs =
+    let s = c .before in
+    let r = s .before .before in
+    let a = r .before .before .before .args in
+    let g = remove kind32 (view (a .self)) (a .code .0) in
+    rw (s .shifted .ensures, r .reduce .ensures) (placed-below kind32 (g .sums) (removed-below kind32 (view (a .self)) (a .code .0)))
 
 returns-2 : tie.Need-returns-2
-unfolding removeOf remove
-returns-2 c = c .answer-with2 .ensures ∙ rw (← c .before .before .well-formed .ensures, c .before .if1 .left)
+unfolding removeOf calls.remove remove
+returns-2 c =
+    let s = c .before .before in
+    let r = s .before .before in
+    rw (
+      ok (r .before),
+      c .accepted .ensures,
+      s .shifted .ensures,
+      count-down _ 1 _ (s .before .wrapping-sub-u32 .ensures) (search needs) (lit< tt),
+      c .before .last-without .ensures,
+      r .reduce .ensures,
+    )
 
 pub remove-spec : {M : Type 1} → statement M
 remove-spec =
-    tie.close (tie.spec (λ c κs. tt) (λ c κs. sym (c .before .well-formed .ensures) ∙ c .if1 .taken) (λ c κs. tt) (λ c κs. tt) returns returns-2)
+    tie.close
+    (tie.spec (λ c κs. tt) (λ c κs. tt) returns (λ c κs. tt) (λ c κs. tt) (λ c κs. ok (c .before .before)) (λ c κs. tt) requires returns-2)

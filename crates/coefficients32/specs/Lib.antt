@@ -1,2 +1,0 @@
--- The answers of coefficients beside the rules.
-pub mod Answers

@@ -1,2 +1,0 @@
--- The answers of decoding beside the rules.
-pub mod Answers

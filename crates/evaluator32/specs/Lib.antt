@@ -1,2 +1,0 @@
--- The answers of evaluation beside the rules.
-pub mod Answers

@@ -1,0 +1,2 @@
+-- The answers of calls that write a list.
+pub mod Answers

@@ -1,2 +1,0 @@
--- The answers of reading a packet beside the rules.
-pub mod Answers

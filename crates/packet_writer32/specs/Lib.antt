@@ -1,2 +1,0 @@
--- The answers of writing a packet beside the rules.
-pub mod Answers

@@ -1,0 +1,53 @@
+// A sketch written as bytes, and read from them.
+ghost use mathlib.Core.Path.{_≡_};
+ghost use lib.ListN.{length};
+ghost use Rattle.rules.specs.Calls.{written};
+ghost use Rattle.lent.specs.Answers.{numbered};
+ghost use Rattle.power_sum32.specs.Answers.{writeOf, writeWithHintOf, readOf};
+use crate::power_sum;
+use crate::power_sum::Answer;
+use crate::power_sum::Last;
+use crate::power_sum::PowerSumQuackU32;
+use lent::Number;
+use modint32::PLACES;
+use sums32::packet;
+
+impl PowerSumQuackU32 {
+    pub fn serialize_with_hint(self, buf: &mut [u8], hint: usize) -> Number
+        ensures answer { λ r. ⌜ r ≡ numbered (writeWithHintOf self hint (length (now (buf .entry)))) ⌝ }
+        ensures buffer { λ r. ⌜ now (buf .exit) ≡ written (writeWithHintOf self hint (length (now (buf .entry)))) (now (buf .entry)) ⌝ }
+    {
+        if !self.well_formed() {
+            return Number::refused(12);
+        }
+        let last = self.last;
+        match last {
+            Last::Nothing => Number::refused(3),
+            Last::Code(x) => {
+                let sums = self.numbers();
+                let n = lent::smaller(self.threshold, hint);
+                packet::put_packet(buf, self.count, x, &sums[0..n])
+            }
+        }
+    }
+
+    pub fn serialize(self, buf: &mut [u8]) -> Number
+        ensures answer { λ r. ⌜ r ≡ numbered (writeOf self (length (now (buf .entry)))) ⌝ }
+        ensures buffer { λ r. ⌜ now (buf .exit) ≡ written (writeOf self (length (now (buf .entry)))) (now (buf .entry)) ⌝ }
+    {
+        let threshold = self.threshold;
+        self.serialize_with_hint(buf, threshold)
+    }
+
+    pub fn deserialize(buf: &[u8]) -> Answer
+        ensures { λ r. ⌜ r ≡ readOf (now (buf .entry)) ⌝ }
+    {
+        let mut sums = [0u32; PLACES];
+        let heads = packet::read(buf, &mut sums);
+        if heads.refusal != 0 {
+            return power_sum::no_sketch(heads.refusal);
+        }
+        let last = heads.last;
+        power_sum::accepted(heads.threshold, sums, heads.count, Last::Code(last))
+    }
+}

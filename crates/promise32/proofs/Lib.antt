@@ -1,2 +1,0 @@
--- The promise for the 32-bit calls that run.
-pub mod Promise

@@ -1,2 +1,0 @@
--- The answers of both subtractions beside the rules.
-pub mod Answers

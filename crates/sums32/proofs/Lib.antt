@@ -1,0 +1,2 @@
+-- What is proved of the test of numbers beside its contract.
+pub mod Wrong

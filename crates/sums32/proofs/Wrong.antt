@@ -1,0 +1,27 @@
+-- The test of numbers determines its answer, and allows neither of two wrong ones. The loops are held to their rules by the calls that use them.
+-- Assumes nothing.
+use Prim.Native.Nat.{ℕ}
+use mathlib.Core.Path.{refl}
+use mathlib.Core.Bool.{Bool, true, false, cond}
+use mathlib.Core.List.{List, [], _∷_}
+use contract.Lifetimes.{Lfts}
+use denote.Ref.{RefT}
+use Rattle.numbers.specs.Table.{every}
+use Rattle.rules.specs.Determines.{Determines}
+use Rattle.rules.proofs.Determined.{lent, by-equation, differs}
+use Rattle.sums32.proofs.places.all_below.Reads as all-below
+
+-- What is read off a test.
+abbrev yes-or-no : Bool → ℕ
+yes-or-no b = cond b 1 0
+
+module _ (κs : Lfts 1) (numbers₁ : RefT (List ℕ)) where
+  -- The test whether all numbers are below the prime has one answer.
+  pub all-below-determined : (numbers : RefT (List ℕ)) → Determines (λ r. all-below.Post κs (numbers, tt) r (numbers₁, tt))
+  all-below-determined numbers = by-equation _
+
+  -- The prime is said to be below itself, and the number before it not to be.
+  pub all-below-wrong : (all-below.Post κs (lent (4294967291 ∷ []), tt) true (numbers₁, tt) → ⊥)
+      × (all-below.Post κs (lent (4294967290 ∷ []), tt) false (numbers₁, tt) → ⊥)
+  unfolding every
+  all-below-wrong = (differs yes-or-no true refl, differs yes-or-no false refl)

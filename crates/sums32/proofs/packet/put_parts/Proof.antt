@@ -1,0 +1,75 @@
+-- The count, the last code and the sums, one behind the other.
+-- Assumes nothing.
+use Prim.Native.Nat.{ℕ, _+_, _-_, _*_, _≤_, zero-le}
+use mathlib.Core.Path.{refl, _∙_, ap, ap₂}
+use mathlib.Core.List.{List, [], _++_}
+use native.Mathlib.Omega.{arith}
+use lib.ListN.{length}
+use lib.Seq.{length-take-le}
+use borrow.Author.Needs.{needs}
+use borrow.Rule.Slice.PartMut.{putMid, mid-len}
+use Rattle.rules.specs.Kind.{kind32}
+use Rattle.rules.specs.Packet.{bytes, allBytes}
+use Rattle.rules.proofs.Packet.{bytes-length, all-bytes-length}
+use Rattle.rules.proofs.Bytes.{Front, front-part, front-more, front-length, front-packet}
+use Rattle.sums32.proofs.packet.put_parts.Statement.{statement}
+use Rattle.sums32.proofs.packet.put_parts.Tie as tie
+
+module _ (c : tie.After-slice-known2) where
+  abbrev start : tie.Start
+  start = c .before .before .before .before .before .before
+
+  -- The count stands at the front.
+  count-put : Front 4 (bytes 4 (start .args .count)) (start .args .buf .now) (putMid 0 4 (start .args .buf .now) (c .before .before .put-number .last .0))
+  count-put =
+      let room = start .pre in
+      let buf = start .args .buf .now in
+      let n = start .args .count in
+      front-part {p = []} (bytes 4 n) (record { size = refl; room = zero-le; is = refl }) (bytes-length 4 n) refl (omega (arith, room))
+      (c .before .before .put-number .ensures ∙ ap (λ (w : ℕ). bytes w n) (length-take-le 4 buf (omega (arith, room))))
+
+module _ (c : tie.After-slice-known3) where
+  abbrev begun : tie.After-slice-known2
+  begun = c .before .before .before .before .before
+
+  abbrev counted : List ℕ
+  counted = putMid 0 4 (start begun .args .buf .now) (begun .before .before .put-number .last .0)
+
+  abbrev coded : List ℕ
+  coded = putMid 4 4 counted (c .before .before .put-number2 .last .0)
+
+  -- The last code stands behind it.
+  last-put : let a = start begun .args in
+      Front 8 (bytes 4 (a .count) ++ bytes 4 (a .last .0)) (a .buf .now) coded
+  last-put =
+      let s = start begun in
+      let x = s .args .last .0 in
+      front-part (bytes 4 x) (count-put begun) (bytes-length 4 x) refl (omega (arith, s .pre))
+      (c .before .before .put-number2 .ensures
+      ∙ ap₂ bytes (mid-len 4 8 counted (omega (arith, front-length (count-put begun), s .pre))) (c .before .before .before .value .ensures))
+
+  long : 8 + length (start begun .args .sums .now) * 4 ≤ length coded
+  long = omega (arith, front-length last-put, start begun .pre)
+
+-- The sums stand behind both.
+sums-put : (c : tie.After-slice-known4) → let l = c .before .before .before .before in let a = start (begun l) .args in
+    Front (8 + length (a .sums .now) * 4) ((bytes 4 (a .count) ++ bytes 4 (a .last .0)) ++ allBytes 4 (a .sums .now)) (a .buf .now)
+    (putMid 8 (length (coded l) - 8) (coded l) (c .before .before .put-numbers .last .0))
+sums-put c =
+    let l = c .before .before .before .before in
+    let s = start (begun l) in
+    front-more (allBytes 4 (s .args .sums .now)) (last-put l) (all-bytes-length 4 (s .args .sums .now)) (s .pre) (c .before .before .put-numbers .ensures)
+
+returns : tie.Need-returns
+returns c =
+    let a = start (begun (c .before .before .before .before)) .args in
+    front-packet kind32 (a .count) (a .last .0) (a .sums .now) (sums-put c)
+
+pub put-parts-spec : {M : Type 1} → statement M
+put-parts-spec =
+    tie.close
+    (tie.spec (λ c. search needs) (λ c. search needs) (λ c. let room = c .before .before .pre in omega (arith, room)) (λ c κs. tt) (λ c. search needs)
+    (λ c. search needs) (λ c. omega (arith, front-length (count-put c), start c .pre)) (λ c κs. tt) (λ c. search needs) (λ c κs. tt)
+    (λ c. omega (arith, long c)) (λ c. omega (arith, long c)) (λ c. search needs)
+    (λ c κs. omega (arith, long (c .before), mid-len 8 (length (coded (c .before))) (coded (c .before)) (omega arith)))
+    (λ c. front-length (sums-put c)) returns)
