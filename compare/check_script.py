@@ -2,9 +2,9 @@
 """check_script.py [FILE]: replays a script of operations by the second program and compares every answer.
 
 A script is text, one line an operation: its kind, the number of its arguments, the arguments, the number of its
-answers, the answers; decimal numbers parted by one space. Operations work on sketches in numbered slots, each of 36
-words: threshold, count, 1 or 0 for a last code, the last code, 32 places. All words are 0 at the start. A call that
-is refused leaves its slot, or the buffer that it was lent, as it was.
+answers, the answers; decimal numbers parted by one space. Operations work on numbered slots. A slot is a slice of
+words, none at the start, and a sketch is the first of them. A call that is refused leaves its slot, or the buffer that
+it was lent, as it was.
 
 Prints the operations of each kind and the differences, and ends with a line that says both numbers.
 """
@@ -12,71 +12,60 @@ import sys
 from collections import Counter, defaultdict
 
 import second
-from second import Sketch
-
-
-def sketch_of(words):
-    return Sketch(words[0], tuple(words[4:]), words[1], words[3] if words[2] else None)
-
-
-def words_of(s):
-    last = [0, 0] if s.last is None else [1, s.last]
-    return [s.threshold, s.count, *last, *s.places]
+from second import both_on_words, on_words
 
 
 class Player:
     """The slots, and a method for each kind, which takes the arguments and gives the answers."""
 
     def __init__(self):
-        self.slots = defaultdict(lambda: second.NO_SKETCH)
+        self.slots = defaultdict(list)
 
     def store(self, slot, answer):
-        """Keeps a sketch that was answered, unless the call refused."""
-        refusal, sketch = answer
-        if refusal == 0:
-            self.slots[slot] = sketch
-        return [refusal, *words_of(self.slots[slot])]
+        """Writes a sketch that was answered to the slot's words, unless the call refused."""
+        refusal = second.to_words(answer, self.slots[slot])
+        return [refusal, *self.slots[slot]]
 
     def new(self, slot, threshold):
         return self.store(slot, second.make(threshold))
 
     def put(self, slot, *words):
-        self.slots[slot] = sketch_of(words)
+        self.slots[slot] = list(words)
         return []
 
     def well_formed(self, slot):
-        return [int(second.well_formed(self.slots[slot]))]
+        return [int(second.sketch_in(self.slots[slot]) is not None)]
 
     def insert(self, slot, code):
-        return self.store(slot, second.insert(self.slots[slot], code))
+        return self.store(slot, on_words(second.insert, self.slots[slot], code))
 
     def remove(self, slot, code):
-        return self.store(slot, second.remove(self.slots[slot], code))
+        return self.store(slot, on_words(second.remove, self.slots[slot], code))
 
     def sub_assign(self, slot, rhs):
-        return self.store(slot, second.sub_assign(self.slots[slot], self.slots[rhs]))
+        return self.store(slot, both_on_words(second.sub_assign, self.slots[slot], self.slots[rhs]))
 
     def sub(self, slot, rhs, to):
-        return self.store(to, second.sub(self.slots[slot], self.slots[rhs]))
+        return self.store(to, both_on_words(second.sub, self.slots[slot], self.slots[rhs]))
 
     def to_coeffs(self, slot, room, fill):
         buffer = [fill] * room
-        return [*second.to_coeffs(self.slots[slot], buffer), *buffer]
+        return [*on_words(second.to_coeffs, self.slots[slot], buffer), *buffer]
 
     def eval(self, x, *coefficients):
         return [*second.evaluate(coefficients, x)]
 
     def decode_with_log(self, slot, room, fill, *log):
         buffer = [fill] * room
-        return [*second.decode(self.slots[slot], log, buffer), *buffer]
+        return [*on_words(second.decode, self.slots[slot], log, buffer), *buffer]
 
     def serialize(self, slot, room, fill):
         buffer = bytearray([fill] * room)
-        return [*second.write(self.slots[slot], buffer), *buffer]
+        return [*on_words(second.write, self.slots[slot], buffer), *buffer]
 
     def serialize_with_hint(self, slot, hint, room, fill):
         buffer = bytearray([fill] * room)
-        return [*second.write(self.slots[slot], buffer, hint), *buffer]
+        return [*on_words(second.write, self.slots[slot], buffer, hint), *buffer]
 
     def deserialize(self, slot, *data):
         return self.store(slot, second.read(data))

@@ -1,9 +1,9 @@
 #!/usr/bin/env python3
 """The second program: every rule of the requirements, over plain integers.
 
-It is written from the requirements alone and shares no line with the verified code, nor with the Rust that the code
-is ported from. Its answers are what both are held to. Each section below carries their heading; a
-sentence of the requirements stands above the lines that say it.
+It is written from the requirements alone, and for words from include/eddybridge32.h, and shares no line with the
+verified code, nor with the Rust that the code is ported from. Its answers are what both are held to. Each section
+below carries their heading; a sentence of theirs stands above the lines that say it.
 
 A refusal is its number. A call that may refuse answers the number first, then what the requirements say it hands
 back: the sketch given, or 0. Lent buffers are Python lists and bytearrays, changed in place.
@@ -258,6 +258,57 @@ def read(data):
     return 0, Sketch(threshold, filled(sums), number_at(data, 0), residue(number_at(data, 4)))
 
 
+# ---- The words of a sketch
+
+# Threshold, count, mark, last code; then the sums.
+HEAD_WORDS = 4
+
+
+def sketch_in(words):
+    """The sketch of threshold T that the first 4 + T words say: the threshold, the count, 1 and the last code or 0 and
+    0, the T sums. None where they say none, or are fewer than 4 + T, or than 4. What stands behind them is not read."""
+    if len(words) < HEAD_WORDS:
+        return None
+    threshold, count, mark, last = words[:HEAD_WORDS]
+    if len(words) < HEAD_WORDS + threshold:
+        return None
+    if (mark, last) != (0, 0) and mark != 1:
+        return None
+    sums = words[HEAD_WORDS:HEAD_WORDS + threshold]
+    s = Sketch(threshold, filled(sums), count, last if mark == 1 else None)
+    return s if well_formed(s) else None
+
+
+def words_of(s):
+    mark, last = (0, 0) if s.last is None else (1, s.last)
+    return [s.threshold, s.count, mark, last, *s.sums()]
+
+
+def on_words(call, words, *further):
+    """A call on the sketch that words say; 12 where they say none."""
+    s = sketch_in(words)
+    return (12, 0) if s is None else call(s, *further)
+
+
+def to_words(answer, words):
+    """Writes a sketch that a call answers to the first of lent words, and gives the refusal: the call's own, or 5
+    where the words are fewer. What stands behind those that are written stays."""
+    refusal, s = answer
+    if refusal != 0:
+        return refusal
+    written = words_of(s)
+    if len(words) < len(written):
+        return 5
+    words[:len(written)] = written
+    return 0
+
+
+def both_on_words(call, words, rhs):
+    """A subtraction of the sketches that words say: 12 for either."""
+    right = sketch_in(rhs)
+    return (12, 0) if right is None else on_words(call, words, right)
+
+
 # ---- The desk program
 
 LOG_LINES = 8192
@@ -352,6 +403,23 @@ def packet_of(sums, count=1, last=1):
     return bytes(b for number in (count, last, *sums) for b in bytes_of(number))
 
 
+def word_cases():
+    """P5's sketch in words: exactly as many, with others behind them, and too few; what is no mark of a last code."""
+    p5 = [3, 2, 1, 12, 22, 244, 2728]
+    yield "words", words_of(sketch_of(3, [10, 12])), p5
+    for behind in ([], [0], [P, 7]):
+        words = p5 + behind
+        refusal = to_words(on_words(insert, words, 1), words)
+        yield "words", (refusal, words), (0, [3, 3, 1, 1, 23, 245, 2729] + behind)
+    for length in range(len(p5)):
+        words = p5[:length]
+        yield "words", (on_words(insert, words, 1)[0], to_words(make(3), words), words), (12, 5, p5[:length])
+    for head in ([3, 2, 2, 12], [3, 2, 0, 12], [3, 2, 1, P], [0, 2, 1, 12], [33, 2, 1, 12], [2 ** 31, 2, 1, 12]):
+        yield "words", sketch_in(head + [0] * GREATEST + [0]), None
+    yield "words", sketch_in([3, 2, 0, 0, 22, 244, 2728, P]).last, None
+    yield "words", both_on_words(sub, p5, p5[:6])[0], 12
+
+
 def bench_cases():
     """Name, what the program answers, what the requirements say."""
     yield "P1", [residue(c) for c in (4294967290, 4294967291, 4294967295)], [4294967290, 0, 4]
@@ -386,6 +454,7 @@ def bench_cases():
     yield "limit", [read(packet_of([n]))[0] for n in (4294967290, 4294967291)], [0, 8]
     yield "desk", desk_answer(b"threshold=3\nlog=1\nlog=2\nlog=10\ngot=1\ngot=10\n"), \
         b"refusal=0\nthreshold=3\ncount=1\nfound=1\nmissing=2\n"
+    yield from word_cases()
     yield "table", [multiply(INVERSES[i], i + 1) for i in range(GREATEST)], [1] * GREATEST
     yield "count", [power(3, e)[1] for e in range(2000)], [power_multiplications(e) for e in range(2000)]
 

@@ -16,16 +16,19 @@
  *
  * The words of a sketch
  *
- * A sketch is an array of EDDY32_WORDS words, which the caller owns:
+ * A sketch of threshold T is the first EDDY32_WORDS(T) words, 4 + T, of an array that the caller owns:
  *
- *     word 0         the threshold T, from 1 to EDDY32_GREATEST: how many entries can be found missing
- *     word 1         the count, modulo 2^32
- *     word 2         1 if there is a last code, 0 if there is none
- *     word 3         the residue of the last code, 0 if there is none
- *     words 4 to 35  the T sums, each below the modulus, and then zeros
+ *     word 0           the threshold T, from 1 to EDDY32_GREATEST: how many entries can be found missing
+ *     word 1           the count, modulo 2^32
+ *     word 2           1 if there is a last code, 0 if there is none
+ *     word 3           the residue of the last code, 0 if there is none
+ *     words 4 to T + 3 the T sums, each below the modulus
  *
- * Words that do not keep to this are no sketch, and neither is a slice of another length: refusal 12. So every sketch has one form in
- * words, and two sketches are equal where their words are. Words may be copied, kept and compared like any others.
+ * The array has at least these words, and is passed with its length or any other from 4 + T on. What stands behind the 4 + T words is
+ * neither read nor written. An array of EDDY32_MOST_WORDS words has room for every sketch.
+ *
+ * Words that do not keep to this are no sketch, and neither are fewer than the 4 + T that word 0 says, nor fewer than 4: refusal 12. So every
+ * sketch has one form in words, and two sketches are equal where their words are. They may be copied, kept and compared like any others.
  *
  *
  * Slices
@@ -43,29 +46,31 @@
  *      2  the thresholds differ
  *      3  there is no last code
  *      4  the count is above the threshold
- *      5  a slice to write to is too short; for the words of a sketch, of another length than EDDY32_WORDS
+ *      5  a slice to write to is too short: it has fewer than 4 + T words for a sketch, fewer places than the count for coefficients or than
+ *         the log for a decoding, or fewer bytes than the packet
  *      6  fewer than 8 bytes
  *      7  no sum, or more than EDDY32_GREATEST
  *      8  a sum that is read, or a coefficient, is the modulus or more
  *     11  no coefficient
  *     12  a sketch given is not well formed
  *
- * Of several that are due, the first in the order that stands beside the function is answered. Where a call is refused, every other number
- * of its answer is 0, and all that was lent to it stays as it was.
+ * Of several that are due, the first in the order that stands beside the function is answered: 12 before all others, 5 after all others.
+ * Where a call is refused, every other number of its answer is 0, and all that was lent to it stays as it was.
  *
  *
  * An example (include/example.c is the whole program)
  *
- *     uint32_t sent[EDDY32_WORDS], got[EDDY32_WORDS], log[3] = {1, 2, 10}, missing[3];
+ *     enum { T = 3, WORDS = EDDY32_WORDS(T) };
+ *     uint32_t sent[WORDS], got[WORDS], log[3] = {1, 2, 10}, missing[3];
  *
- *     eddy32_new(3, sent, EDDY32_WORDS);
- *     eddy32_new(3, got, EDDY32_WORDS);
+ *     eddy32_new(T, sent, WORDS);
+ *     eddy32_new(T, got, WORDS);
  *     for (size_t i = 0; i < 3; i++)
- *         eddy32_insert(sent, EDDY32_WORDS, log[i]);
- *     eddy32_insert(got, EDDY32_WORDS, 1);
- *     eddy32_insert(got, EDDY32_WORDS, 10);
- *     eddy32_sub_assign(sent, EDDY32_WORDS, got, EDDY32_WORDS);
- *     eddy32_number found = eddy32_decode_with_log(sent, EDDY32_WORDS, log, 3, missing, 3);
+ *         eddy32_insert(sent, WORDS, log[i]);
+ *     eddy32_insert(got, WORDS, 1);
+ *     eddy32_insert(got, WORDS, 10);
+ *     eddy32_sub_assign(sent, WORDS, got, WORDS);
+ *     eddy32_number found = eddy32_decode_with_log(sent, WORDS, log, 3, missing, 3);
  *
  * Then found.refusal is 0, found.value is 1, and missing[0] is 2.
  */
@@ -79,11 +84,16 @@
 extern "C" {
 #endif
 
-#define EDDY32_WORDS 36
-#define EDDY32_GREATEST 32
 #define EDDY32_MODULUS 4294967291u
 
-/* How many numbers were written; or a refusal, and 0. */
+/* The greatest threshold. */
+#define EDDY32_GREATEST 32
+
+/* The words of a sketch of threshold t, and of one of the greatest threshold. */
+#define EDDY32_WORDS(t) (4 + (t))
+#define EDDY32_MOST_WORDS EDDY32_WORDS(EDDY32_GREATEST)
+
+/* How many numbers or bytes were written; or a refusal, and 0. */
 typedef struct {
     uint32_t refusal;
     size_t value;
@@ -104,10 +114,10 @@ typedef struct {
 
 /* ---- sketches ---- */
 
-/* Makes a fresh sketch: sums 0, count 0, no last code. Refusals: 1, 5. */
+/* Makes a fresh sketch in the first words of out: sums 0, count 0, no last code. Refusals: 1, 5. */
 uint32_t eddy32_new(size_t threshold, uint32_t *out, size_t out_len);
 
-/* 1 if the words are those of a well-formed sketch, otherwise 0. */
+/* 1 if s begins with the words of a well-formed sketch, otherwise 0. */
 uint32_t eddy32_well_formed(const uint32_t *s, size_t s_len);
 
 /* Inserts a code of residue x: sum k grows by x^k, the count by 1, and x becomes the last code. Refusal: 12. */
@@ -120,7 +130,7 @@ uint32_t eddy32_remove(uint32_t *s, size_t s_len, uint32_t code);
 /* Subtracts rhs from s, in s: sums and counts are subtracted, and there is no last code. Refusals: 12 for either, 2. */
 uint32_t eddy32_sub_assign(uint32_t *s, size_t s_len, const uint32_t *rhs, size_t rhs_len);
 
-/* Writes s minus rhs to out. The smaller threshold is kept and the further sums are dropped. Refusals: 12 for either, 5. */
+/* Writes s minus rhs to the first words of out. The smaller threshold is kept and the further sums are dropped. Refusals: 12 for either, 5. */
 uint32_t eddy32_sub(const uint32_t *s, size_t s_len, const uint32_t *rhs, size_t rhs_len, uint32_t *out, size_t out_len);
 
 
@@ -148,8 +158,8 @@ eddy32_number eddy32_serialize(const uint32_t *s, size_t s_len, uint8_t *buf, si
 /* The same with at most `hint` sums; the count stays that of all. Refusals: 12, 3, 5. */
 eddy32_number eddy32_serialize_with_hint(const uint32_t *s, size_t s_len, uint8_t *buf, size_t buf_len, size_t hint);
 
-/* Reads a sketch whose threshold is the number of sums that the bytes hold; up to three trailing bytes are ignored, and the last code is
-   reduced. Refusals: 6, 7, 8, 5. */
+/* Reads a sketch to the first words of out. Its threshold is the number of sums that the bytes hold; up to three trailing bytes are ignored,
+   and the last code is reduced. Refusals: 6, 7, 8, 5. */
 uint32_t eddy32_deserialize(const uint8_t *buf, size_t buf_len, uint32_t *out, size_t out_len);
 
 

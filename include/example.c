@@ -16,16 +16,17 @@
 
 static int missing_codes(void)
 {
-    uint32_t sent[EDDY32_WORDS], got[EDDY32_WORDS], log[3] = {1, 2, 10}, missing[3];
+    enum { T = 3, WORDS = EDDY32_WORDS(T) };
+    uint32_t sent[WORDS], got[WORDS], log[3] = {1, 2, 10}, missing[3];
 
-    eddy32_new(3, sent, EDDY32_WORDS);
-    eddy32_new(3, got, EDDY32_WORDS);
+    eddy32_new(T, sent, WORDS);
+    eddy32_new(T, got, WORDS);
     for (size_t i = 0; i < 3; i++)
-        eddy32_insert(sent, EDDY32_WORDS, log[i]);
-    eddy32_insert(got, EDDY32_WORDS, 1);
-    eddy32_insert(got, EDDY32_WORDS, 10);
-    eddy32_sub_assign(sent, EDDY32_WORDS, got, EDDY32_WORDS);
-    eddy32_number found = eddy32_decode_with_log(sent, EDDY32_WORDS, log, 3, missing, 3);
+        eddy32_insert(sent, WORDS, log[i]);
+    eddy32_insert(got, WORDS, 1);
+    eddy32_insert(got, WORDS, 10);
+    eddy32_sub_assign(sent, WORDS, got, WORDS);
+    eddy32_number found = eddy32_decode_with_log(sent, WORDS, log, 3, missing, 3);
 
     if (found.refusal != 0)
         return 1;
@@ -37,23 +38,24 @@ static int missing_codes(void)
 
 static int packet(void)
 {
-    uint32_t s[EDDY32_WORDS], again[EDDY32_WORDS];
-    uint8_t buf[8 + 4 * 2];
+    enum { T = 2, WORDS = EDDY32_WORDS(T) };
+    uint32_t s[WORDS], again[EDDY32_MOST_WORDS];
+    uint8_t buf[8 + 4 * T];
 
-    eddy32_new(2, s, EDDY32_WORDS);
-    eddy32_insert(s, EDDY32_WORDS, 1);
-    eddy32_insert(s, EDDY32_WORDS, 10);
-    eddy32_number written = eddy32_serialize(s, EDDY32_WORDS, buf, sizeof buf);
+    eddy32_new(T, s, WORDS);
+    eddy32_insert(s, WORDS, 1);
+    eddy32_insert(s, WORDS, 10);
+    eddy32_number written = eddy32_serialize(s, WORDS, buf, sizeof buf);
     if (written.refusal != 0)
         return 1;
     printf("packet=");
     for (size_t i = 0; i < written.value; i++)
         printf("%02x%s", (unsigned)buf[i], i + 1 < written.value ? " " : "\n");
 
-    /* Read back, it is the same sketch, word for word. */
-    if (eddy32_deserialize(buf, written.value, again, EDDY32_WORDS) != 0)
+    /* Whoever reads a packet need not know its threshold: the most words have room for it. It is the same sketch, word for word. */
+    if (eddy32_deserialize(buf, written.value, again, EDDY32_MOST_WORDS) != 0)
         return 1;
-    for (size_t i = 0; i < EDDY32_WORDS; i++)
+    for (size_t i = 0; i < WORDS; i++)
         if (again[i] != s[i])
             return 1;
     return 0;
@@ -61,11 +63,12 @@ static int packet(void)
 
 static int refusal(void)
 {
-    uint32_t s[EDDY32_WORDS];
+    enum { T = 2, WORDS = EDDY32_WORDS(T) };
+    uint32_t s[WORDS];
 
-    eddy32_new(2, s, EDDY32_WORDS);
+    eddy32_new(T, s, WORDS);
     s[4] = EDDY32_MODULUS; /* No sum is the modulus or more: the words are no sketch, and they stay as they are. */
-    printf("refusal=%u\n", (unsigned)eddy32_insert(s, EDDY32_WORDS, 7));
+    printf("refusal=%u\n", (unsigned)eddy32_insert(s, WORDS, 7));
     return s[1] != 0 || s[4] != EDDY32_MODULUS;
 }
 

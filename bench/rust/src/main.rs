@@ -6,11 +6,11 @@
 //! counted. Both sides answer a sum over all that they computed, and the sums must agree. Shown are the least and the
 //! median time of a call and our time divided by the Rust's: above 1 is slower than the Rust.
 //!
-//! The verified side is called through its C boundary, as words: each call tests that the sketch is well formed, and
-//! writes into buffers that are lent and not cleared between calls. The Rust makes a new list for coefficients,
-//! decoded lists and sketches that are read, and that is part of its time.
+//! The verified side is called through its C boundary, a sketch of threshold T as 4 + T words: each call tests that the
+//! sketch is well formed, and writes into buffers that are lent and not cleared between calls. The Rust makes a new list
+//! for coefficients, decoded lists and sketches that are read, and that is part of its time.
 
-use ours::{COUNT, LAST, SUMS, WORDS};
+use ours::{COUNT, LAST, SUMS};
 use quack::arithmetic::ModularArithmetic;
 use quack::{PowerSumQuack, PowerSumQuackU32, Quack};
 use std::hint::black_box;
@@ -50,8 +50,8 @@ fn rust_sketch(threshold: usize, codes: &[u32]) -> PowerSumQuackU32 {
     sketch
 }
 
-fn our_sketch(threshold: usize, codes: &[u32]) -> [u32; WORDS] {
-    let mut words = [0; WORDS];
+fn our_sketch(threshold: usize, codes: &[u32]) -> Vec<u32> {
+    let mut words = vec![0; ours::words(threshold)];
     assert_eq!(ours::new(threshold, &mut words), 0);
     for &code in codes {
         assert_eq!(ours::insert(&mut words, code), 0);
@@ -79,9 +79,8 @@ fn rust_sum(sketch: &PowerSumQuackU32) -> u64 {
     mixed(std::iter::once(sketch.count()).chain(sums))
 }
 
-fn our_sum(words: &[u32; WORDS]) -> u64 {
-    let threshold = words[0] as usize;
-    mixed(std::iter::once(words[COUNT]).chain(words[SUMS..SUMS + threshold].iter().copied()))
+fn our_sum(words: &[u32]) -> u64 {
+    mixed(std::iter::once(words[COUNT]).chain(words[SUMS..].iter().copied()))
 }
 
 // ---- the works
@@ -145,7 +144,7 @@ fn sub_assign(threshold: usize, seed: u64) -> Work {
             rust_sum(&sketch)
         }),
         ours: Box::new(move || {
-            let mut words = c;
+            let mut words = c.clone();
             for _ in 0..CALLS {
                 ours::sub_assign(black_box(&mut words), black_box(&d));
             }
@@ -169,7 +168,7 @@ fn sub(threshold: usize, seed: u64) -> Work {
             rust_sum(&sketch)
         }),
         ours: Box::new(move || {
-            let mut words = c;
+            let mut words = c.clone();
             for _ in 0..CALLS {
                 ours::sub(black_box(&c), black_box(&d), &mut words);
             }
@@ -266,7 +265,7 @@ fn read(threshold: usize, seed: u64) -> Work {
             mix(rust_sum(&sketch), sketch.last_value().unwrap() as u64)
         }),
         ours: Box::new(move || {
-            let mut words = [0; WORDS];
+            let mut words = our_sketch(threshold, &[]);
             for _ in 0..CALLS {
                 ours::deserialize(black_box(&same), black_box(&mut words));
             }

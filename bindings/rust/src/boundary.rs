@@ -1,14 +1,16 @@
 //! The functions of the static library `exports32`: declared, and each called by a safe function.
 //!
-//! A slice crosses as a pointer and then a length. A sketch crosses as [`WORDS`] words, which stand as the constants
-//! below say. Nothing checks the declarations against the source of `exports32`: the tests do.
+//! A slice crosses as a pointer and then a length. A sketch of threshold T is the first 4 + T words of its slice, which
+//! stand as the constants below say; what stands behind them is neither read nor written. So the slices here have the
+//! words of the greatest sketch, whatever the threshold. Nothing checks the declarations against the source of
+//! `exports32`: the tests do.
 use crate::field::Power;
 use crate::refusal::Refusal;
 
-/// The places for sums, and so the greatest threshold.
-pub const PLACES: usize = 32;
-/// The words of a sketch.
-pub const WORDS: usize = SUMS + PLACES;
+/// The greatest threshold.
+pub const GREATEST: usize = 32;
+/// The words of a sketch of the greatest threshold.
+pub const MOST_WORDS: usize = SUMS + GREATEST;
 /// Where the threshold stands.
 pub const THRESHOLD: usize = 0;
 /// Where the count stands.
@@ -17,10 +19,10 @@ pub const COUNT: usize = 1;
 pub const HAS_LAST: usize = 2;
 /// Where the last value stands, or 0 for none.
 pub const LAST: usize = 3;
-/// Where the first of the places stands.
+/// Where the first sum stands.
 pub const SUMS: usize = 4;
 
-pub type Words = [u32; WORDS];
+pub type Words = [u32; MOST_WORDS];
 
 /// How many numbers or bytes were written, or a refusal and 0.
 #[repr(C)]

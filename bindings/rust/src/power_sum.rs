@@ -1,5 +1,5 @@
 //! The sketch.
-use crate::boundary::{self, Words, COUNT, HAS_LAST, LAST, PLACES, SUMS, THRESHOLD, WORDS};
+use crate::boundary::{self, Words, COUNT, GREATEST, HAS_LAST, LAST, MOST_WORDS, SUMS, THRESHOLD};
 use crate::refusal::Refusal;
 use std::fmt;
 
@@ -23,11 +23,13 @@ use std::fmt;
 /// ```
 #[derive(Clone, PartialEq, Eq)]
 pub struct PowerSumQuackU32 {
+    /// The words of the sketch, and zeros behind them: every sketch begins as [`Self::BLANK`], and no call writes there.
+    /// So two sketches are equal where all their words are.
     words: Words,
 }
 
 impl PowerSumQuackU32 {
-    const BLANK: Self = Self { words: [0; WORDS] };
+    const BLANK: Self = Self { words: [0; MOST_WORDS] };
 
     /// Makes an empty sketch that can decode up to `threshold` values.
     ///
@@ -188,7 +190,7 @@ impl PowerSumQuackU32 {
     /// # }
     /// ```
     pub fn to_coeffs(&self) -> Result<Vec<u32>, Refusal> {
-        let mut coeffs = [0; PLACES];
+        let mut coeffs = [0; GREATEST];
         let n = boundary::to_coeffs(&self.words, &mut coeffs)?;
         Ok(coeffs[..n].to_vec())
     }

@@ -29,8 +29,8 @@ pub enum Refusal {
     NoLastValue = 3,
     /// 4: coefficients or a decoding are asked of a sketch whose count is above its threshold.
     CountAboveThreshold = 4,
-    /// 5: the buffer to write into is shorter than what is to be written. For coefficients and decodings this crate
-    /// lends a long enough buffer of its own.
+    /// 5: the buffer to write into is shorter than what is to be written. For coefficients, decodings and sketches this
+    /// crate lends a long enough buffer of its own.
     BufferTooShort = 5,
     /// 6: the packet to read has fewer than 8 bytes.
     PacketTooShort = 6,

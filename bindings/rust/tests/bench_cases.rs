@@ -173,6 +173,25 @@ fn subtractions() {
 }
 
 #[test]
+fn sketches_are_equal_however_they_came_about() {
+    for threshold in 1..=32 {
+        let sketch = sketch_of(threshold, &[1, 10]);
+        assert_eq!(PowerSumQuackU32::deserialize(&packet_of(&sketch)).unwrap(), sketch);
+        assert_eq!(
+            PowerSumQuackU32::deserialize(&packet_of(&sketch_of(32, &[1, 10]))[..8 + 4 * threshold]).unwrap(),
+            sketch
+        );
+        let mut rest = sketch.clone();
+        rest.sub_assign(&sketch_of(threshold, &[10])).unwrap();
+        for greater in threshold..=32 {
+            assert_eq!(sketch_of(greater, &[1, 10]).sub(&sketch_of(threshold, &[10])).unwrap(), rest);
+            assert_eq!(sketch.sub(&sketch_of(greater, &[10])).unwrap(), rest);
+        }
+        assert_eq!(rest.threshold(), threshold);
+    }
+}
+
+#[test]
 fn hints_cut_the_sums_and_nothing_else() {
     let sketch = sketch_of(2, &[1, 10]);
     let whole = packet_of(&sketch);

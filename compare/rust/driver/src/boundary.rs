@@ -1,125 +1,101 @@
-//! Slices that are no sketch: each call on each of its sketches refuses them by 12 and changes nothing. A slice of another
-//! length for a sketch to go to is refused by 5, after the call's own refusals.
-//!
-//! A sketch's words are those that a sketch is written as. So another length is none, nor is a mark of the last code
-//! other than 0 and 1, nor a last code where the mark says none.
+//! The rule of words, tried through: every threshold in slices of every length, and every fault that words can have, each
+//! given to every call on sketches as each of its arguments.
 
+use crate::op::{Op, LONGEST};
 use crate::oracle::P;
 use crate::rng::Rng;
-use ours::{Number, COUNT, HAS_LAST, LAST, SUMS, THRESHOLD, WORDS};
+use ours::{COUNT, GREATEST, HAS_LAST, LAST, SUMS, THRESHOLD};
 
-const REFUSED: Number = Number { refusal: 12, value: 0 };
-const LENGTHS: [usize; 7] = [0, 1, 4, 35, 37, 40, 72];
+/// The slot of the words that are tried, that of a good sketch of the same threshold, and that of a result.
+const TRIED: usize = 0;
+const GOOD: usize = 1;
+const RESULT: usize = 2;
 
-fn sketch(rng: &mut Rng) -> Vec<u32> {
-    let mut words = vec![0; WORDS];
-    let threshold = rng.range(1, 32);
+const CODE: u32 = 12345;
+const FILL: u32 = 0xfeed;
+const BYTE: u8 = 0xee;
+
+/// The words of a sketch of a threshold, and any numbers behind them.
+fn sketch(rng: &mut Rng, threshold: usize) -> Vec<u32> {
+    let mut words: Vec<u32> = (0..LONGEST).map(|_| rng.next() as u32).collect();
     words[THRESHOLD] = threshold as u32;
-    words[COUNT] = rng.range(0, threshold) as u32;
-    words[HAS_LAST] = 1;
-    words[LAST] = rng.next() as u32 % P;
-    for sum in &mut words[SUMS..SUMS + threshold] {
-        *sum = rng.next() as u32 % P;
+    words[COUNT] = rng.range(0, threshold + 1) as u32;
+    (words[HAS_LAST], words[LAST]) = (1, words[LAST] % P);
+    for sum in &mut words[SUMS..ours::words(threshold)] {
+        *sum %= P;
     }
     words
 }
 
-/// A sketch's words of another length, or with words 2 and 3 as no sketch has them.
-fn no_sketch(rng: &mut Rng) -> Vec<u32> {
-    let mut words = sketch(rng);
-    match rng.below(4) {
-        0 => words[HAS_LAST] = rng.pick(&[2, 3, 256, u32::MAX]),
-        1 => (words[HAS_LAST], words[LAST]) = (0, rng.range(1, 100) as u32),
-        _ => words.resize(rng.pick(&LENGTHS), 0),
+fn packet(words: &[u32], threshold: usize) -> Vec<u8> {
+    let numbers = [words[COUNT], words[LAST]];
+    numbers.iter().chain(&words[SUMS..ours::words(threshold)]).flat_map(|word| word.to_le_bytes()).collect()
+}
+
+/// Every call that reads a sketch, on the words that are tried, with a buffer long enough and with none.
+fn readers(threshold: usize) -> Vec<Op> {
+    let slot = TRIED;
+    let room = 8 + 4 * threshold;
+    let mut ops = vec![Op::WellFormed { slot }];
+    for room in [0, room] {
+        ops.push(Op::ToCoeffs { slot, room, fill: FILL });
+        ops.push(Op::Decode { slot, room, fill: FILL, log: vec![0, CODE, P - 1] });
+        ops.push(Op::Serialize { slot, room, fill: BYTE });
+        ops.push(Op::SerializeWithHint { slot, hint: threshold / 2, room, fill: BYTE });
     }
-    words
+    ops
 }
 
-fn other_length(rng: &mut Rng) -> Vec<u32> {
-    let length = rng.pick(&LENGTHS);
-    vec![rng.next() as u32; length]
+/// Every call on sketches, given the words as each of its arguments and as the place of its result.
+fn calls(good: &[u32], tried: &[u32], threshold: usize) -> Vec<Op> {
+    let put = |slot| Op::Put { slot, words: tried.to_vec() };
+    let mut ops = vec![Op::Put { slot: GOOD, words: good.to_vec() }, put(TRIED)];
+    ops.extend(readers(threshold));
+    ops.push(Op::Insert { slot: TRIED, code: CODE });
+    ops.push(Op::Remove { slot: TRIED, code: CODE });
+    ops.push(Op::Sub { slot: TRIED, rhs: GOOD, to: RESULT });
+    ops.push(Op::Sub { slot: GOOD, rhs: TRIED, to: RESULT });
+    ops.push(Op::SubAssign { slot: TRIED, rhs: GOOD });
+    ops.push(Op::SubAssign { slot: GOOD, rhs: TRIED });
+    ops.extend([put(RESULT), Op::Sub { slot: GOOD, rhs: GOOD, to: RESULT }]);
+    ops.extend([put(RESULT), Op::Deserialize { slot: RESULT, bytes: packet(good, threshold) }]);
+    ops.extend([put(RESULT), Op::New { slot: RESULT, threshold }, Op::New { slot: RESULT, threshold: 0 }]);
+    ops
 }
 
-/// One round of calls; true for each that refuses as it must.
-fn round(rng: &mut Rng) -> Vec<(&'static str, bool)> {
-    let (good, bad) = (sketch(rng), no_sketch(rng));
-    let code = rng.next() as u32;
-    let mut tried = Vec::new();
-    let mut try_on = |name, call: &mut dyn FnMut(&mut [u32]) -> bool| {
-        let mut lent = bad.clone();
-        let refused = call(&mut lent);
-        tried.push((name, refused && lent == bad));
+/// The words with each fault alone, and with each word behind the sketch at the prime, which is none.
+fn spoilt(words: &[u32], threshold: usize) -> Vec<Vec<u32>> {
+    let with = |changes: &[(usize, u32)]| {
+        let mut copy = words.to_vec();
+        changes.iter().for_each(|&(at, number)| copy[at] = number);
+        copy
     };
-    try_on("well_formed", &mut |s| ours::well_formed(s) == 0);
-    try_on("insert", &mut |s| ours::insert(s, code) == 12);
-    try_on("remove", &mut |s| ours::remove(s, code) == 12);
-    try_on("sub_assign", &mut |s| ours::sub_assign(s, &good) == 12);
-    try_on("sub_assign", &mut |s| {
-        let mut left = good.clone();
-        ours::sub_assign(&mut left, s) == 12 && left == good
-    });
-    try_on("sub", &mut |s| {
-        let mut out = good.clone();
-        ours::sub(s, &good, &mut out) == 12 && ours::sub(&good, s, &mut out) == 12 && out == good
-    });
-    try_on("to_coeffs", &mut |s| {
-        let mut buffer = [code; 40];
-        ours::to_coeffs(s, &mut buffer) == REFUSED && buffer == [code; 40]
-    });
-    try_on("decode_with_log", &mut |s| {
-        let mut buffer = [code; 3];
-        ours::decode_with_log(s, &[1, 2, 3], &mut buffer) == REFUSED && buffer == [code; 3]
-    });
-    try_on("serialize", &mut |s| {
-        let mut buffer = [9u8; 140];
-        ours::serialize(s, &mut buffer) == REFUSED && buffer == [9; 140]
-    });
-    try_on("serialize_with_hint", &mut |s| {
-        let mut buffer = [9u8; 140];
-        ours::serialize_with_hint(s, &mut buffer, rng_hint(code)) == REFUSED && buffer == [9; 140]
-    });
-    for (name, refused) in outputs(rng, &good) {
-        tried.push((name, refused));
+    let thresholds = [0, 33, 34, 256, 1 << 31, u32::MAX].map(|t| with(&[(THRESHOLD, t)]));
+    let marks = [2, 3, 256, 1 << 31, u32::MAX].map(|mark| with(&[(HAS_LAST, mark)]));
+    let lasts = [(0, 0), (0, 1), (0, P), (1, 0), (1, P - 1), (1, P), (1, u32::MAX)]
+        .map(|(mark, last)| with(&[(HAS_LAST, mark), (LAST, last)]));
+    let counts = [0, threshold as u32, threshold as u32 + 1, u32::MAX].map(|count| with(&[(COUNT, count)]));
+    let places = (SUMS..words.len()).flat_map(|at| [P - 1, P, u32::MAX].map(|number| with(&[(at, number)])));
+    thresholds.into_iter().chain(marks).chain(lasts).chain(counts).chain(places).collect()
+}
+
+/// All of it, always the same.
+pub fn sweep() -> Vec<Op> {
+    let mut rng = Rng::new(1);
+    let mut ops = vec![Op::Put { slot: RESULT, words: vec![FILL; LONGEST] }];
+    for threshold in 1..=GREATEST {
+        let (good, tried) = (sketch(&mut rng, threshold), sketch(&mut rng, threshold));
+        for length in 0..=LONGEST {
+            ops.extend(calls(&good, &tried[..length], threshold));
+        }
     }
-    tried
-}
-
-fn rng_hint(code: u32) -> usize {
-    (code % 40) as usize
-}
-
-/// Calls whose result does not fit where it is to go: 5, after every refusal of the call itself.
-fn outputs(rng: &mut Rng, good: &[u32]) -> Vec<(&'static str, bool)> {
-    let bad = other_length(rng);
-    let mut out = bad.clone();
-    let threshold = rng.range(0, 40);
-    let due = if (1..=32).contains(&threshold) { 5 } else { 1 };
-    let made = ours::new(threshold, &mut out) == due && out == bad;
-    let subtracted = ours::sub(good, good, &mut out) == 5 && out == bad;
-    let bytes = vec![1; rng.range(0, 150)];
-    let due = match bytes.len() {
-        0..=7 => 6,
-        8..=11 | 140.. => 7,
-        _ => 5,
-    };
-    let read = ours::deserialize(&bytes, &mut out) == due && out == bad;
-    vec![("new", made), ("sub", subtracted), ("deserialize", read)]
-}
-
-/// Tries `rounds` rounds: the number of calls, and those that did not refuse as they must.
-pub fn check(seed: u64, rounds: usize) -> (usize, usize) {
-    let mut rng = Rng::new(seed);
-    let (mut calls, mut wrong) = (0, 0);
-    for _ in 0..rounds {
-        for (name, refused) in round(&mut rng) {
-            calls += 1;
-            if !refused {
-                wrong += 1;
-                if wrong <= 10 {
-                    println!("difference: {name} on words that are no sketch does not refuse as it must and keep all");
-                }
+    for threshold in [1, 2, 20, GREATEST] {
+        let (good, tried) = (sketch(&mut rng, threshold), sketch(&mut rng, threshold));
+        for length in [ours::words(threshold), ours::words(threshold) + 2] {
+            for words in spoilt(&tried[..length], threshold) {
+                ops.extend(calls(&good, &words, threshold));
             }
         }
     }
-    (calls, wrong)
+    ops
 }

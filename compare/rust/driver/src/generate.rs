@@ -4,13 +4,15 @@
 //! - A *bag*: the use that the sketch is made for. A log goes into one sketch and what arrived into a second; the
 //!   second is written, perhaps with a hint, and read again; the difference is decoded with the log.
 //!
-//! Codes, packets and rooms are drawn at each edge about as often as anywhere else.
+//! Codes, packets, rooms and the lengths of slices are drawn at each edge about as often as anywhere else. A sketch is
+//! made in words that hold anything before.
 
+use crate::boundary;
 use crate::cases;
-use crate::op::{Op, Words};
+use crate::op::{Op, LONGEST};
 use crate::oracle::{Oracle, P};
 use crate::rng::Rng;
-use ours::{COUNT, HAS_LAST, LAST, PLACES, SUMS, THRESHOLD, WORDS};
+use ours::{COUNT, GREATEST, HAS_LAST, LAST, SUMS, THRESHOLD};
 use std::collections::VecDeque;
 
 const EDGES: [u32; 16] = [0, 1, 2, 3, 4, 5, P - 2, P - 1, P, P + 1, P + 2, P + 3, P + 4, u32::MAX / 2, 1 << 31, 65535];
@@ -26,7 +28,7 @@ pub struct Sizes {
     pub history: usize,
     /// The longest log.
     pub log: usize,
-    /// Whether lengths and thresholds of 2^32 and more occur.
+    /// Whether lengths and thresholds of 2^32 and more occur, and every length and fault of words is tried.
     pub wide: bool,
     /// How many thresholds in a hundred are at most 6, which keeps a script short.
     pub small: usize,
@@ -48,16 +50,25 @@ pub struct Generator {
     recent: Vec<u32>,
 }
 
-/// The packet of a slot's words with the first `hint` sums at most, and a last code of its own.
-fn packet_of(words: &Words, last: u32, hint: usize) -> Vec<u8> {
-    let sums = (words[THRESHOLD] as usize).min(PLACES).min(hint);
-    let numbers = [words[COUNT], last];
-    numbers.iter().chain(&words[SUMS..SUMS + sums]).flat_map(|word| word.to_le_bytes()).collect()
+/// The number in a word, 0 where there are fewer words.
+fn word(words: &[u32], at: usize) -> u32 {
+    words.get(at).copied().unwrap_or(0)
+}
+
+/// The packet of words with the first `hint` sums at most, and a last code of its own.
+fn packet_of(words: &[u32], last: u32, hint: usize) -> Vec<u8> {
+    let sums = (word(words, THRESHOLD) as usize).min(GREATEST).min(hint);
+    let numbers = [word(words, COUNT), last];
+    numbers.iter().chain(words.iter().skip(SUMS).take(sums)).flat_map(|word| word.to_le_bytes()).collect()
 }
 
 impl Generator {
     pub fn new(seed: u64, sizes: Sizes) -> Generator {
-        let waiting = cases::opening().into_iter().map(Step::Do).collect();
+        let mut opening = cases::opening();
+        if sizes.wide {
+            opening.extend(boundary::sweep());
+        }
+        let waiting = opening.into_iter().map(Step::Do).collect();
         Generator { rng: Rng::new(seed), sizes, waiting, left: 0, recent: Vec::new() }
     }
 
@@ -69,7 +80,8 @@ impl Generator {
         match self.waiting.pop_front() {
             Some(Step::Do(op)) => op,
             Some(Step::Carry { from, to, hint }) => {
-                Op::Deserialize { slot: to, bytes: packet_of(state.words(from), state.words(from)[LAST], hint) }
+                let words = state.words(from);
+                Op::Deserialize { slot: to, bytes: packet_of(words, word(words, LAST), hint) }
             }
             None => {
                 self.left -= 1;
@@ -82,6 +94,17 @@ impl Generator {
         self.waiting.push_back(Step::Do(op));
     }
 
+    /// Words of any numbers, as many as a sketch of the threshold takes, more, or at times fewer.
+    fn plan_words(&mut self, slot: usize, threshold: usize) {
+        let words = (0..self.length(threshold)).map(|_| self.number()).collect();
+        self.plan(Op::Put { slot, words });
+    }
+
+    fn plan_new(&mut self, slot: usize, threshold: usize) {
+        self.plan_words(slot, threshold);
+        self.plan(Op::New { slot, threshold });
+    }
+
     fn begin_round(&mut self) {
         self.recent.clear();
         if self.rng.percent(self.sizes.bags) {
@@ -92,7 +115,7 @@ impl Generator {
         let agree = self.rng.percent(60);
         for slot in 0..self.sizes.slots {
             let threshold = if agree { shared } else { self.threshold() };
-            self.plan(Op::New { slot, threshold });
+            self.plan_new(slot, threshold);
         }
         // Short histories keep counts within the threshold; a few long ones wrap sums and counts many times.
         let most = match self.rng.below(100) {
@@ -111,7 +134,7 @@ impl Generator {
         } else if self.rng.percent(20) {
             self.rng.pick(&[1, 2, 3, 20, 21, 31, 32])
         } else {
-            self.rng.range(1, PLACES)
+            self.rng.range(1, GREATEST)
         }
     }
 
@@ -172,47 +195,63 @@ impl Generator {
         (0..length).map(|_| self.code()).collect()
     }
 
-    /// Words of a sketch with numbers of any kind, then perhaps one fault that makes them none.
-    fn words(&mut self) -> Words {
-        let mut words = [0; WORDS];
+    /// The length of a slice for a sketch of a threshold: mostly its words or more, one time in 20 fewer.
+    fn length(&mut self, threshold: usize) -> usize {
+        let need = ours::words(threshold);
+        match self.rng.below(40) {
+            0..=15 => need,
+            16..=21 => need + 1,
+            22..=29 => self.rng.range(need, LONGEST),
+            30..=33 => ours::words(GREATEST),
+            34..=37 => LONGEST,
+            38 => need - 1,
+            _ => self.rng.below(need),
+        }
+    }
+
+    /// Words of a sketch with numbers of any kind, any numbers behind them, then perhaps a fault that makes them none.
+    fn words(&mut self) -> Vec<u32> {
         let threshold = self.threshold();
+        let mut words: Vec<u32> = (0..LONGEST).map(|_| self.number()).collect();
         words[THRESHOLD] = threshold as u32;
-        words[COUNT] = if self.rng.percent(70) { self.rng.range(0, threshold + 1) as u32 } else { self.number() };
         if self.rng.percent(70) {
-            words[HAS_LAST] = 1;
-            words[LAST] = self.number() % P;
+            words[COUNT] = self.rng.range(0, threshold + 1) as u32;
         }
-        for k in 0..threshold {
-            words[SUMS + k] = self.number() % P;
+        (words[HAS_LAST], words[LAST]) = if self.rng.percent(70) { (1, words[LAST] % P) } else { (0, 0) };
+        for sum in &mut words[SUMS..ours::words(threshold)] {
+            *sum %= P;
         }
-        if self.rng.percent(40) {
+        words.truncate(self.length(threshold));
+        if self.rng.percent(40) && words.len() >= ours::words(threshold) {
             self.spoil(&mut words, threshold);
         }
         words
     }
 
-    fn spoil(&mut self, words: &mut Words, threshold: usize) {
+    /// A fault, or a threshold of one more or less, with which the words say another sketch or none.
+    fn spoil(&mut self, words: &mut Vec<u32>, threshold: usize) {
         let beyond = self.rng.pick(&[P, P + 1, P + 4]);
-        match self.rng.below(5) {
-            0 => words[THRESHOLD] = self.rng.pick(&[0, 33, 34, 256, u32::MAX]),
+        match self.rng.below(7) {
+            0 => words[THRESHOLD] = self.rng.pick(&[0, 33, 34, 256, 1 << 31, u32::MAX]),
             1 => words[SUMS + self.rng.below(threshold)] = beyond,
             2 => (words[HAS_LAST], words[LAST]) = (1, beyond),
-            3 if threshold < PLACES => words[SUMS + self.rng.range(threshold, PLACES - 1)] = self.number().max(1),
-            3 => words[SUMS + PLACES - 1] = beyond,
-            _ => words[THRESHOLD] -= 1,
+            3 => words[HAS_LAST] = self.rng.pick(&[2, 3, 256, 1 << 31, u32::MAX]),
+            4 => (words[HAS_LAST], words[LAST]) = (0, self.rng.pick(&[1, P, u32::MAX])),
+            5 => words[THRESHOLD] = self.rng.pick(&[threshold - 1, threshold + 1]) as u32,
+            _ => words.truncate(self.rng.below(ours::words(threshold))),
         }
     }
 
     /// A packet: that of a slot or one of its own, whole, cut, longer, with a damaged byte, or any bytes.
     fn packet(&mut self, state: &Oracle) -> Vec<u8> {
         if self.rng.percent(10) {
-            let length = self.rng.below(4 * PLACES + 20);
+            let length = self.rng.below(4 * GREATEST + 20);
             return (0..length).map(|_| self.rng.next() as u8).collect();
         }
         let slot = self.slot();
-        let words = if self.rng.percent(60) { *state.words(slot) } else { self.words() };
-        let last = if self.rng.percent(20) { self.number() } else { words[LAST] };
-        let mut bytes = packet_of(&words, last, PLACES);
+        let words = if self.rng.percent(60) { state.words(slot).to_vec() } else { self.words() };
+        let last = if self.rng.percent(20) { self.number() } else { word(&words, LAST) };
+        let mut bytes = packet_of(&words, last, GREATEST);
         self.damage(&mut bytes);
         bytes
     }
@@ -241,8 +280,8 @@ impl Generator {
     fn any(&mut self, state: &Oracle) -> Op {
         let slot = self.slot();
         let words = state.words(slot);
-        let threshold = (words[THRESHOLD] as usize).min(PLACES);
-        let count = (words[COUNT] as usize).min(threshold);
+        let threshold = (word(words, THRESHOLD) as usize).min(GREATEST);
+        let count = (word(words, COUNT) as usize).min(threshold);
         match self.rng.below(100) {
             0..=27 => Op::Insert { slot, code: self.code() },
             28..=41 => Op::Remove { slot, code: self.code() },
@@ -270,7 +309,7 @@ impl Generator {
             }
             77..=81 => Op::Deserialize { slot, bytes: self.packet(state) },
             82 | 83 => Op::New { slot, threshold: self.any_threshold() },
-            84..=86 => Op::Put { slot, words: Box::new(self.words()) },
+            84..=86 => Op::Put { slot, words: self.words() },
             _ => self.field(),
         }
     }
@@ -313,8 +352,9 @@ impl Generator {
     fn bag(&mut self) {
         let threshold = self.threshold();
         let arrived_threshold = if self.rng.percent(25) { self.threshold() } else { threshold };
-        self.plan(Op::New { slot: 0, threshold });
-        self.plan(Op::New { slot: 1, threshold: arrived_threshold });
+        self.plan_new(0, threshold);
+        self.plan_new(1, arrived_threshold);
+        self.plan_words(2, threshold.min(arrived_threshold));
         let missing = self.rng.range(0, (threshold + 1).min(self.sizes.log));
         let length = self.rng.range(missing, (missing + 40).min(self.sizes.log));
         let log: Vec<u32> = (0..length).map(|_| self.code()).collect();

@@ -7,20 +7,21 @@
 //! ```
 //!
 //! so a reader needs to know nothing of an operation to pass over it. The sketches that operations work on stand in
-//! numbered slots, each the words of a sketch, all zero at the start. What each kind takes and answers is said at
-//! `Op`; `refusal` is 0 where nothing is refused, and a refused operation leaves every slot and buffer as it was.
+//! numbered slots. A slot is a slice of at most `LONGEST` words, none at the start, that a sketch may be the first of.
+//! What each kind takes and answers is said at `Op`; `refusal` is 0 where nothing is refused, and a refused operation
+//! leaves every slot and buffer as it was.
 
-use ours::WORDS;
 use std::fmt::Write;
 
-pub type Words = [u32; WORDS];
+/// The most words of a slot: more than the greatest sketch has.
+pub const LONGEST: usize = ours::words(ours::GREATEST) + 4;
 
 #[derive(Clone, Debug)]
 pub enum Op {
     /// slot threshold → refusal, the slot's words
     New { slot: usize, threshold: usize },
-    /// slot words → nothing: the slot holds these words, whatever they are
-    Put { slot: usize, words: Box<Words> },
+    /// slot words.. → nothing: the slot is a slice of these words, whatever they are and however many
+    Put { slot: usize, words: Vec<u32> },
     /// slot → 1 or 0
     WellFormed { slot: usize },
     /// slot code → refusal, the slot's words
@@ -91,10 +92,6 @@ pub fn may_refuse(kind: usize) -> bool {
     (4..=13).contains(&kind) || kind == 1
 }
 
-fn wide(numbers: &[u32]) -> impl Iterator<Item = u64> + '_ {
-    numbers.iter().map(|&n| n as u64)
-}
-
 impl Op {
     pub fn kind(&self) -> usize {
         match self {
@@ -122,39 +119,49 @@ impl Op {
         }
     }
 
-    pub fn arguments(&self) -> Vec<u64> {
-        let mut out: Vec<u64> = Vec::new();
-        match self {
-            Op::New { slot, threshold } => out.extend([*slot as u64, *threshold as u64]),
-            Op::Put { slot, words } => {
-                out.push(*slot as u64);
-                out.extend(wide(&words[..]));
-            }
-            Op::WellFormed { slot } => out.push(*slot as u64),
-            Op::Insert { slot, code } | Op::Remove { slot, code } => out.extend([*slot as u64, *code as u64]),
-            Op::SubAssign { slot, rhs } => out.extend([*slot as u64, *rhs as u64]),
-            Op::Sub { slot, rhs, to } => out.extend([*slot as u64, *rhs as u64, *to as u64]),
-            Op::ToCoeffs { slot, room, fill } => out.extend([*slot as u64, *room as u64, *fill as u64]),
-            Op::Eval { x, coeffs } => {
-                out.push(*x as u64);
-                out.extend(wide(coeffs));
-            }
-            Op::Decode { slot, room, fill, log } => {
-                out.extend([*slot as u64, *room as u64, *fill as u64]);
-                out.extend(wide(log));
-            }
-            Op::Serialize { slot, room, fill } => out.extend([*slot as u64, *room as u64, *fill as u64]),
-            Op::SerializeWithHint { slot, hint, room, fill } => {
-                out.extend([*slot as u64, *hint as u64, *room as u64, *fill as u64])
-            }
-            Op::Deserialize { slot, bytes } => {
-                out.push(*slot as u64);
-                out.extend(bytes.iter().map(|&b| b as u64));
-            }
-            Op::Reduce(a) | Op::Neg(a) | Op::Inv(a) | Op::PowMultiplications(a) => out.push(*a as u64),
-            Op::Add(a, b) | Op::FieldSub(a, b) | Op::Mul(a, b) | Op::Pow(a, b) => out.extend([*a as u64, *b as u64]),
+    /// The slot that the operation is on, where it is on one.
+    pub fn slot(&self) -> Option<usize> {
+        match *self {
+            Op::New { slot, .. }
+            | Op::Put { slot, .. }
+            | Op::WellFormed { slot }
+            | Op::Insert { slot, .. }
+            | Op::Remove { slot, .. }
+            | Op::SubAssign { slot, .. }
+            | Op::Sub { slot, .. }
+            | Op::ToCoeffs { slot, .. }
+            | Op::Decode { slot, .. }
+            | Op::Serialize { slot, .. }
+            | Op::SerializeWithHint { slot, .. }
+            | Op::Deserialize { slot, .. } => Some(slot),
+            _ => None,
         }
-        out
+    }
+
+    /// The arguments behind the slot, or all of an operation that is on none: numbers, and then a list.
+    fn numbers(&self) -> (Vec<u64>, Vec<u64>) {
+        let wide = |list: &[u32]| list.iter().map(|&n| n as u64).collect();
+        match self {
+            Op::New { threshold, .. } => (vec![*threshold as u64], vec![]),
+            Op::Put { words, .. } => (vec![], wide(words)),
+            Op::WellFormed { .. } => (vec![], vec![]),
+            Op::Insert { code, .. } | Op::Remove { code, .. } => (vec![*code as u64], vec![]),
+            Op::SubAssign { rhs, .. } => (vec![*rhs as u64], vec![]),
+            Op::Sub { rhs, to, .. } => (vec![*rhs as u64, *to as u64], vec![]),
+            Op::ToCoeffs { room, fill, .. } => (vec![*room as u64, *fill as u64], vec![]),
+            Op::Eval { x, coeffs } => (vec![*x as u64], wide(coeffs)),
+            Op::Decode { room, fill, log, .. } => (vec![*room as u64, *fill as u64], wide(log)),
+            Op::Serialize { room, fill, .. } => (vec![*room as u64, *fill as u64], vec![]),
+            Op::SerializeWithHint { hint, room, fill, .. } => (vec![*hint as u64, *room as u64, *fill as u64], vec![]),
+            Op::Deserialize { bytes, .. } => (vec![], bytes.iter().map(|&b| b as u64).collect()),
+            Op::Reduce(a) | Op::Neg(a) | Op::Inv(a) | Op::PowMultiplications(a) => (vec![*a as u64], vec![]),
+            Op::Add(a, b) | Op::FieldSub(a, b) | Op::Mul(a, b) | Op::Pow(a, b) => (vec![*a as u64, *b as u64], vec![]),
+        }
+    }
+
+    fn arguments(&self) -> Vec<u64> {
+        let (numbers, list) = self.numbers();
+        self.slot().map(|slot| slot as u64).into_iter().chain(numbers).chain(list).collect()
     }
 
     /// The operation's line in a script, with its LF.

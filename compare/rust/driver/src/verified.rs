@@ -1,70 +1,67 @@
 //! The verified side: each operation through the C boundary, on memory with guards around everything that is lent.
 
-use crate::op::{Op, Words};
-use ours::{Evaluated, Number, Powered, WORDS};
+use crate::op::Op;
+use ours::{Evaluated, Number, Powered};
 
-/// Words before and after each slot, and places before and after each buffer, that no call may touch.
+/// Places before and after each slot and each buffer that no call may touch.
 const GUARD: usize = 5;
 const GUARD_WORD: u32 = 0xa5c3_96e1;
 const GUARD_BYTE: u8 = 0xa7;
 
-const STEP: usize = WORDS + GUARD;
+/// Places to lend, between guards.
+struct Guarded<T> {
+    places: Vec<T>,
+    guard: T,
+}
+
+impl<T: Copy + PartialEq> Guarded<T> {
+    fn of(lent: &[T], guard: T) -> Guarded<T> {
+        Guarded { places: [&[guard; GUARD], lent, &[guard; GUARD]].concat(), guard }
+    }
+
+    fn range(&self) -> std::ops::Range<usize> {
+        GUARD..self.places.len() - GUARD
+    }
+
+    fn lent(&self) -> &[T] {
+        &self.places[self.range()]
+    }
+
+    fn lent_mut(&mut self) -> &mut [T] {
+        let range = self.range();
+        &mut self.places[range]
+    }
+
+    fn intact(&self) -> bool {
+        let range = self.range();
+        self.places[..range.start].iter().chain(&self.places[range.end..]).all(|&place| place == self.guard)
+    }
+}
 
 pub struct Verified {
-    /// Guard, slot, guard, slot, .., guard.
-    memory: Vec<u32>,
-    slots: usize,
+    slots: Vec<Guarded<u32>>,
     /// Whether some call wrote outside what it was lent.
     pub strayed: bool,
 }
 
-fn place(slot: usize) -> std::ops::Range<usize> {
-    let start = GUARD + slot * STEP;
-    start..start + WORDS
-}
-
-fn number(answer: Number) -> Vec<u64> {
-    vec![answer.refusal as u64, answer.value as u64]
-}
-
 impl Verified {
     pub fn new(slots: usize) -> Verified {
-        let mut memory = vec![GUARD_WORD; GUARD + slots * STEP];
-        for slot in 0..slots {
-            memory[place(slot)].fill(0);
-        }
-        Verified { memory, slots, strayed: false }
+        Verified { slots: (0..slots).map(|_| Guarded::of(&[], GUARD_WORD)).collect(), strayed: false }
     }
 
     pub fn words(&self, slot: usize) -> &[u32] {
-        &self.memory[place(slot)]
+        self.slots[slot].lent()
     }
 
-    fn slot(&mut self, slot: usize) -> &mut [u32] {
-        &mut self.memory[place(slot)]
+    /// A call that changes a slot, given the other slots too: the refusal, and the slot's words.
+    fn change(&mut self, slot: usize, call: impl FnOnce(&Verified, &mut [u32]) -> u32) -> Vec<u64> {
+        let mut changed = std::mem::replace(&mut self.slots[slot], Guarded::of(&[], GUARD_WORD));
+        let refusal = call(self, changed.lent_mut());
+        self.slots[slot] = changed;
+        std::iter::once(&refusal).chain(self.words(slot)).map(|&word| word as u64).collect()
     }
 
-    /// Two different slots, the first to be changed.
-    fn slot_beside(&mut self, slot: usize, other: usize) -> (&mut [u32], &[u32]) {
-        assert_ne!(slot, other);
-        let (first, second) = (place(slot), place(other));
-        if first.start < second.start {
-            let (low, high) = self.memory.split_at_mut(second.start);
-            (&mut low[first], &high[..WORDS])
-        } else {
-            let (low, high) = self.memory.split_at_mut(first.start);
-            (&mut high[..WORDS], &low[second])
-        }
-    }
-
-    fn with_words(&self, refusal: u32, slot: usize) -> Vec<u64> {
-        let mut answer = Vec::with_capacity(1 + WORDS);
-        answer.push(refusal as u64);
-        answer.extend(self.words(slot).iter().map(|&w| w as u64));
-        answer
-    }
-
-    /// Lends a buffer of `room` places that hold `fill`, between guards, and adds what it holds then to the answer.
+    /// Lends a buffer of `room` places that hold `fill`, and adds what it holds then to the answer.
     fn lend<T: Copy + PartialEq + Into<u64>>(
         &mut self,
         room: usize,
@@ -72,69 +69,40 @@ impl Verified {
         guard: T,
         call: impl FnOnce(&Verified, &mut [T]) -> Number,
     ) -> Vec<u64> {
-        let mut buffer = vec![guard; room + 2 * GUARD];
-        buffer[GUARD..GUARD + room].fill(fill);
-        let mut answer = number(call(self, &mut buffer[GUARD..GUARD + room]));
-        let outside = buffer[..GUARD].iter().chain(&buffer[GUARD + room..]);
-        self.strayed |= outside.copied().any(|w| w != guard);
-        answer.extend(buffer[GUARD..GUARD + room].iter().map(|&w| w.into()));
+        let mut buffer = Guarded::of(&vec![fill; room], guard);
+        let Number { refusal, value } = call(self, buffer.lent_mut());
+        self.strayed |= !buffer.intact();
+        let mut answer = vec![refusal as u64, value as u64];
+        answer.extend(buffer.lent().iter().map(|&place| place.into()));
         answer
-    }
-
-    fn look_at_guards(&mut self) {
-        for between in 0..=self.slots {
-            let start = between * STEP;
-            self.strayed |= self.memory[start..start + GUARD].iter().any(|&w| w != GUARD_WORD);
-        }
     }
 
     pub fn answer(&mut self, op: &Op) -> Vec<u64> {
         let answer = self.call(op);
-        self.look_at_guards();
+        self.strayed |= !self.slots.iter().all(Guarded::intact);
         answer
     }
 
     fn call(&mut self, op: &Op) -> Vec<u64> {
         match op {
-            Op::New { slot, threshold } => {
-                let refusal = ours::new(*threshold, self.slot(*slot));
-                self.with_words(refusal, *slot)
-            }
+            Op::New { slot, threshold } => self.change(*slot, |_, words| ours::new(*threshold, words)),
             Op::Put { slot, words } => {
-                self.slot(*slot).copy_from_slice(&words[..]);
+                self.slots[*slot] = Guarded::of(words, GUARD_WORD);
                 vec![]
             }
             Op::WellFormed { slot } => vec![ours::well_formed(self.words(*slot)) as u64],
-            Op::Insert { slot, code } => {
-                let refusal = ours::insert(self.slot(*slot), *code);
-                self.with_words(refusal, *slot)
+            Op::Insert { slot, code } => self.change(*slot, |_, words| ours::insert(words, *code)),
+            Op::Remove { slot, code } => self.change(*slot, |_, words| ours::remove(words, *code)),
+            Op::SubAssign { slot, rhs } if slot == rhs => {
+                let copy = self.words(*rhs).to_vec();
+                self.change(*slot, |_, words| ours::sub_assign(words, &copy))
             }
-            Op::Remove { slot, code } => {
-                let refusal = ours::remove(self.slot(*slot), *code);
-                self.with_words(refusal, *slot)
-            }
-            Op::SubAssign { slot, rhs } => {
-                let refusal = if slot == rhs {
-                    let copy: Words = self.words(*rhs).try_into().unwrap();
-                    ours::sub_assign(self.slot(*slot), &copy)
-                } else {
-                    let (words, right) = self.slot_beside(*slot, *rhs);
-                    ours::sub_assign(words, right)
-                };
-                self.with_words(refusal, *slot)
-            }
+            Op::SubAssign { slot, rhs } => self.change(*slot, |side, words| ours::sub_assign(words, side.words(*rhs))),
             Op::Sub { slot, rhs, to } => {
-                let left: Words = self.words(*slot).try_into().unwrap();
-                let (out, right) = self.slot_beside(*to, *rhs);
-                let refusal = ours::sub(&left, right, out);
-                self.with_words(refusal, *to)
+                self.change(*to, |side, words| ours::sub(side.words(*slot), side.words(*rhs), words))
             }
             Op::ToCoeffs { slot, room, fill } => {
                 self.lend(*room, *fill, GUARD_WORD, |side, buffer| ours::to_coeffs(side.words(*slot), buffer))
-            }
-            Op::Eval { x, coeffs } => {
-                let Evaluated { refusal, value } = ours::eval(coeffs, *x);
-                vec![refusal as u64, value as u64]
             }
             Op::Decode { slot, room, fill, log } => self
                 .lend(*room, *fill, GUARD_WORD, |side, buffer| ours::decode_with_log(side.words(*slot), log, buffer)),
@@ -144,21 +112,31 @@ impl Verified {
             Op::SerializeWithHint { slot, hint, room, fill } => self.lend(*room, *fill, GUARD_BYTE, |side, buffer| {
                 ours::serialize_with_hint(side.words(*slot), buffer, *hint)
             }),
-            Op::Deserialize { slot, bytes } => {
-                let refusal = ours::deserialize(bytes, self.slot(*slot));
-                self.with_words(refusal, *slot)
+            Op::Deserialize { slot, bytes } => self.change(*slot, |_, words| ours::deserialize(bytes, words)),
+            _ => Self::field(op),
+        }
+    }
+
+    /// The operations that no slot has a part in.
+    fn field(op: &Op) -> Vec<u64> {
+        let one = |number: u32| vec![number as u64];
+        match *op {
+            Op::Eval { x, ref coeffs } => {
+                let Evaluated { refusal, value } = ours::eval(coeffs, x);
+                vec![refusal as u64, value as u64]
             }
-            Op::Reduce(a) => vec![ours::reduce(*a) as u64],
-            Op::Add(a, b) => vec![ours::add(*a, *b) as u64],
-            Op::FieldSub(a, b) => vec![ours::field_sub(*a, *b) as u64],
-            Op::Mul(a, b) => vec![ours::mul(*a, *b) as u64],
-            Op::Neg(a) => vec![ours::neg(*a) as u64],
-            Op::Inv(a) => vec![ours::inv(*a) as u64],
+            Op::Reduce(a) => one(ours::reduce(a)),
+            Op::Add(a, b) => one(ours::add(a, b)),
+            Op::FieldSub(a, b) => one(ours::field_sub(a, b)),
+            Op::Mul(a, b) => one(ours::mul(a, b)),
+            Op::Neg(a) => one(ours::neg(a)),
+            Op::Inv(a) => one(ours::inv(a)),
             Op::Pow(a, exponent) => {
-                let Powered { value, multiplications } = ours::pow(*a, *exponent);
+                let Powered { value, multiplications } = ours::pow(a, exponent);
                 vec![value as u64, multiplications as u64]
             }
-            Op::PowMultiplications(exponent) => vec![ours::pow_multiplications(*exponent) as u64],
+            Op::PowMultiplications(exponent) => one(ours::pow_multiplications(exponent)),
+            _ => unreachable!("an operation on slots"),
         }
     }
 }

@@ -1,12 +1,17 @@
 //! The verified sketch as Rust sees it: the functions of `exports32` declared, and a safe function over each.
 //!
-//! A slice crosses as a pointer and then a length. A sketch is `WORDS` words: the threshold, the count, 1 where
-//! there is a last code and 0 where there is none, the last code (0 where there is none), and the 32 places.
+//! A slice crosses as a pointer and then a length. A sketch is the first `words(T)` words of its slice, T being its
+//! threshold: the threshold, the count, 1 where there is a last code and 0 where there is none, the last code (0 where
+//! there is none), and the T sums. What stands behind them in the slice is neither read nor written.
 //! Nothing checks these declarations against the source of `exports32`: the comparison does.
 
-/// The words of a sketch: four, and the places.
-pub const WORDS: usize = 4 + PLACES;
-pub const PLACES: usize = 32;
+/// The greatest threshold.
+pub const GREATEST: usize = 32;
+
+/// The words of a sketch of a threshold.
+pub const fn words(threshold: usize) -> usize {
+    SUMS + threshold
+}
 
 pub const THRESHOLD: usize = 0;
 pub const COUNT: usize = 1;
