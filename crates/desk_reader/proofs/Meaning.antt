@@ -15,11 +15,11 @@ use Rattle.rules.specs.Sketch as sketch
 use Rattle.rules.specs.Sketch.{Sketch, WellFormed, inRange}
 use Rattle.rules.specs.Calls as calls
 use Rattle.rules.specs.Calls.{given, unless}
-use Rattle.rules.specs.Lines.{LF, parsed}
-use Rattle.rules.specs.Desk.{mostLines, Seen, unbegun, logs, gots, stopped, next, sketchOfCodes}
+use Rattle.desk_rules.specs.Lines.{LF, parsed}
+use Rattle.desk_rules.specs.Desk.{mostLines, Seen, unbegun, logs, gots, stopped, next, sketchOfCodes}
 use Rattle.rules.proofs.WellFormed.{fresh-well-formed, insert-well-formed, in-range-parts}
-use Rattle.rules.proofs.Desk as rules
-use Rattle.rules.proofs.Desk.{State, stateAfter}
+use Rattle.desk_rules.proofs.Desk as rules
+use Rattle.desk_rules.proofs.Desk.{State, stateAfter}
 use Rattle.power_sum32.specs.declared.power_sum.Answer.{Answer}
 use Rattle.power_sum32.specs.Answers.{built, empty, answered, sketchAnswer, newOf, insertOf}
 use Rattle.power_sum32.proofs.Struct.{view-built, built-well-formed}

@@ -11,9 +11,9 @@ use lib.ListN.{length, getD, drop, drop-of-length-le}
 use lib.Seq.{drop-cons}
 use borrow.Author.Tests.{ne-eqb, eqb-true, eqb-false, ltb-true, ltb-false, leb-true}
 use Rattle.rules.specs.Kind.{kind32}
-use Rattle.rules.specs.Lines as rules
-use Rattle.rules.specs.Lines.{thresholdWord, logWord, greatestNumber, isDigit, wellBegun, number, threshold, log, got, bad, valued, keyed, orElse, parsed}
-use Rattle.rules.proofs.Desk.{further, alone, number-by-digits}
+use Rattle.desk_rules.specs.Lines as rules
+use Rattle.desk_rules.specs.Lines.{thresholdWord, logWord, greatestNumber, isDigit, wellBegun, number, threshold, log, got, bad, valued, keyed, orElse, parsed}
+use Rattle.desk_rules.proofs.Desk.{further, alone, number-by-digits}
 use Rattle.rules.proofs.Each.{and-first}
 use Rattle.desk_reader.specs.declared.Key.{Key}
 use Rattle.desk_reader.specs.declared.Key.the-variants.{Threshold, Log, Got}

@@ -9,8 +9,8 @@ use borrow.Author.Tests.{le-leb}
 use contract.Lifetimes.{Lfts}
 use denote.Ref.{RefT, now}
 use Rattle.rules.specs.Kind.{kind32}
-use Rattle.rules.specs.Desk.{mostLines}
-use Rattle.rules.proofs.Desk.{stateAfter}
+use Rattle.desk_rules.specs.Desk.{mostLines}
+use Rattle.desk_rules.proofs.Desk.{stateAfter}
 use Rattle.desk_reader.specs.declared.Reading.{Reading}
 use Rattle.desk_reader.specs.declared.Fed.{Fed}
 use Rattle.desk_reader.specs.Reader.{standing, feedAnswer}

@@ -10,8 +10,8 @@ use lib.Dec.{ltb}
 use lib.ListN.{length, getD, drop, set, length-set, drop-of-length-le}
 use lib.Seq.{drop-cons}
 use borrow.Author.Tests.{lt-ltb, le-ltb, ne-eqb}
-use Rattle.rules.specs.Lines.{LF}
-use Rattle.rules.specs.Desk.{mostLines}
+use Rattle.desk_rules.specs.Lines.{LF}
+use Rattle.desk_rules.specs.Desk.{mostLines}
 use Rattle.desk_reader.specs.declared.Key.{Key}
 use Rattle.desk_reader.specs.declared.Key.the-variants.{Threshold, Log, Got}
 use Rattle.desk_reader.specs.declared.Line.{Line}

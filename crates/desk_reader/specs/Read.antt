@@ -3,7 +3,7 @@
 use Prim.Native.Nat.{ℕ, _≤_}
 use mathlib.Core.List.{List, [], _++_}
 use lib.ListN.{length}
-use Rattle.rules.specs.Desk.{mostLines}
+use Rattle.desk_rules.specs.Desk.{mostLines}
 use Rattle.desk_reader.specs.declared.Reading.{Reading}
 use Rattle.desk_reader.specs.declared.Fed.{Fed}
 

@@ -9,8 +9,8 @@ use Rattle.modint32.specs.declared.Code.{Code}
 use Rattle.power_sum32.specs.declared.power_sum.Answer.{Answer}
 use Rattle.power_sum32.specs.Answers.{empty, newOf, insertOf}
 use Rattle.rules.specs.Kind.{kind32}
-use Rattle.rules.specs.Lines.{LF, thresholdWord, logWord, gotWord, greatestNumber, isDigit}
-use Rattle.rules.specs.Desk.{mostLines}
+use Rattle.desk_rules.specs.Lines.{LF, thresholdWord, logWord, gotWord, greatestNumber, isDigit}
+use Rattle.desk_rules.specs.Desk.{mostLines}
 use Rattle.desk_reader.specs.declared.Key.{Key}
 use Rattle.desk_reader.specs.declared.Key.the-variants.{Threshold, Log, Got}
 use Rattle.desk_reader.specs.declared.Line.{Line}

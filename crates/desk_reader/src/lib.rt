@@ -2,7 +2,7 @@
 ghost use mathlib.Core.Path.{_≡_};
 ghost use Prim.Native.Nat.{_≤_, _<_};
 ghost use lib.ListN.{length, getD};
-ghost use Rattle.rules.specs.Desk.{mostLines};
+ghost use Rattle.desk_rules.specs.Desk.{mostLines};
 ghost use Rattle.desk_reader.specs.Reader.{wordOf, firstByte, wordByte, firstDigit, nextDigit, lineByte};
 ghost use Rattle.desk_reader.specs.Reader.{emptyDesk, badLine, thresholdLine, logDesk, logLine, storedLog, gotDesk, gotLine, takeLine, takenLog};
 ghost use Rattle.desk_reader.specs.Reader.{standing, fedOf, startOf, feedAnswer, feedLog};

@@ -13,9 +13,9 @@ use Rattle.rules.specs.Kind.{kind32}
 use Rattle.rules.specs.Decode.{decode}
 use Rattle.rules.specs.Calls as calls
 use Rattle.rules.specs.Calls.{Outcome, refused, given, unless, refusalOf, written, fitting}
-use Rattle.rules.specs.Desk.{mostLines, reported}
-use Rattle.rules.specs.Text.{printed}
-use Rattle.rules.proofs.Room.{decode-fewer}
+use Rattle.desk_rules.specs.Desk.{mostLines, reported}
+use Rattle.desk_rules.specs.Text.{printed}
+use Rattle.desk_rules.proofs.Room.{decode-fewer}
 use Rattle.power_sum32.specs.declared.power_sum.PowerSumQuackU32.{PowerSumQuackU32}
 use Rattle.power_sum32.specs.declared.power_sum.Answer.{Answer}
 use Rattle.lent.specs.declared.Number.{Number}

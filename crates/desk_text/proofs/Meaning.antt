@@ -12,11 +12,11 @@ use Rattle.rules.specs.Kind.{kind32}
 use Rattle.rules.specs.Calls.{fitting}
 use Rattle.rules.specs.Sketch.{Sketch, WellFormed, subtract}
 use Rattle.rules.specs.Calls as calls
-use Rattle.rules.specs.Lines.{greatestNumber, isDigit}
-use Rattle.rules.specs.Desk.{mostLines, Seen, unbegun, logs, gots, stopped, closed, decided, outcome}
-use Rattle.rules.specs.Text.{printed, deskAnswer}
+use Rattle.desk_rules.specs.Lines.{greatestNumber, isDigit}
+use Rattle.desk_rules.specs.Desk.{mostLines, Seen, unbegun, logs, gots, stopped, closed, decided, outcome}
+use Rattle.desk_rules.specs.Text.{printed, deskAnswer}
 use Rattle.rules.proofs.WellFormed.{subtract-well-formed}
-use Rattle.rules.proofs.Desk.{stateAfter, read-after}
+use Rattle.desk_rules.proofs.Desk.{stateAfter, read-after}
 use Rattle.power_sum32.specs.Answers.{built, answered, subAssignOf, decodeOf}
 use Rattle.power_sum32.proofs.Struct.{view-built, built-well-formed}
 use Rattle.desk_reader.specs.declared.Key.the-variants.{Threshold, Log, Got}

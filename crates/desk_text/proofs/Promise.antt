@@ -2,7 +2,7 @@
 -- What a call answers is whatever its contract allows.
 -- Assumes nothing.
 use Prim.Native.Nat.{ℕ, _≤_, _<_}
-use mathlib.Core.Path.{_≡_, _∙_}
+use mathlib.Core.Path.{_≡_, _∙_, ap, subst}
 use mathlib.Core.List.{List, _++_}
 use lib.Dec.{lit≤}
 use lib.ListN.{length, drop}
@@ -11,8 +11,10 @@ use contract.Lifetimes.{Lfts}
 use denote.Ref.{RefT, now}
 use Rattle.rules.specs.Kind.{kind32}
 use Rattle.rules.specs.Calls.{refused, fitting}
-use Rattle.rules.specs.Text.{deskAnswer}
-use Rattle.rules.proofs.Room.{answer-short}
+use Rattle.desk_rules.specs.Text.{deskAnswer}
+use Rattle.desk_rules.specs.Castle.{Castle, inputOf, outputFor}
+use Rattle.desk_rules.proofs.Castle.{castle-exact}
+use Rattle.desk_rules.proofs.Room.{answer-short}
 use Rattle.lent.specs.declared.Number.{Number}
 use Rattle.lent.specs.Answers.{numbered, counted}
 use Rattle.desk_reader.specs.declared.Reading.{Reading}
@@ -35,6 +37,14 @@ module _ {bs : List ℕ} {r : Reading} {n : Number} (κs : Lfts 2) (log out log�
   answered l =
       let fits = le-leb (length (deskAnswer kind32 bs)) (length (now out)) l in
       (p .0 ∙ rw (outcome, fits), p .1 .0 ∙ rw (outcome, fits))
+
+  -- Where the pieces together are the lines of a threshold T, the log codes l and the got codes g, each residue is got at most as often as it is logged, and
+  -- at most T are missing, the buffer holds exactly the log's entries that are missing, in text, and later bytes are untouched.
+  pub castle-listed : (T : ℕ) (l g : List ℕ) → Castle kind32 T l g → bs ≡ inputOf T l g → length (outputFor kind32 T l g) ≤ length (now out)
+      → (n ≡ counted (length (outputFor kind32 T l g))) × (now out₁ ≡ outputFor kind32 T l g ++ drop (length (outputFor kind32 T l g)) (now out))
+  castle-listed T l g castle lines =
+      subst (λ (o : List ℕ). length o ≤ length (now out) → (n ≡ counted (length o)) × (now out₁ ≡ o ++ drop (length o) (now out)))
+      (ap (deskAnswer kind32) lines ∙ castle-exact kind32 T l g castle) answered
 
   -- Where it is too short, 5 is answered and no byte is written.
   pub too-short : length (now out) < length (deskAnswer kind32 bs) → (n ≡ numbered (refused 5)) × (now out₁ ≡ now out)

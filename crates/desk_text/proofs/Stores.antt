@@ -10,9 +10,9 @@ use lib.ListN.{length, getD, take, drop, set, length-append}
 use lib.Seq.{take-suc, take-all, length-take-le, sets, sets-eq, length-sets}
 use borrow.Author.Tests.{le-leb, lt-leb}
 use Rattle.rules.specs.Calls.{Outcome, refused, given, written, fitting}
-use Rattle.rules.specs.Lines.{thresholdWord}
-use Rattle.rules.specs.Text.{decimal, refusalWord, countWord, foundWord, missingWord, line, lines, printed}
-use Rattle.rules.proofs.Text.{decimal-digit, decimal-digits, decimal-short, lines-more, lines-part}
+use Rattle.desk_rules.specs.Lines.{thresholdWord}
+use Rattle.desk_rules.specs.Text.{decimal, refusalWord, countWord, foundWord, missingWord, line, lines, printed}
+use Rattle.desk_rules.proofs.Text.{decimal-digit, decimal-digits, decimal-short, lines-more, lines-part}
 use Rattle.lent.specs.declared.Number.{Number}
 use Rattle.lent.specs.Answers.{numbered, counted}
 use Rattle.lent.proofs.Lists.{refusal, listing}

@@ -9,10 +9,10 @@ use contract.Lifetimes.{Lfts}
 use denote.Ref.{RefT, now}
 use Rattle.rules.specs.Kind.{kind32}
 use Rattle.rules.specs.Calls.{refused, fitting}
-use Rattle.rules.specs.Lines.{bytesOf}
-use Rattle.rules.specs.Text.{deskAnswer}
+use Rattle.desk_rules.specs.Lines.{bytesOf}
+use Rattle.desk_rules.specs.Text.{deskAnswer}
 use Rattle.rules.specs.Determines.{RefusesBoth}
-use Rattle.rules.proofs.Desk.{examples}
+use Rattle.desk_rules.proofs.Desk.{examples}
 use Rattle.rules.proofs.Determined.{differs}
 use Rattle.lent.specs.declared.Number.{Number}
 use Rattle.lent.specs.Answers.{numbered, counted}

@@ -8,8 +8,8 @@ use lib.ListN.{length, take}
 use Rattle.power_sum32.specs.declared.power_sum.Answer.{Answer}
 use Rattle.power_sum32.specs.Answers.{subAssignOf, decodeOf}
 use Rattle.rules.specs.Calls.{Outcome, refused, unless, fitting}
-use Rattle.rules.specs.Desk.{mostLines, Report, reported}
-use Rattle.rules.specs.Text.{printed}
+use Rattle.desk_rules.specs.Desk.{mostLines, Report, reported}
+use Rattle.desk_rules.specs.Text.{printed}
 use Rattle.desk_reader.specs.declared.Line.{Line}
 use Rattle.desk_reader.specs.declared.Line.the-variants.{Fresh, Word, Value, Bad}
 use Rattle.desk_reader.specs.declared.Phase.{Phase}

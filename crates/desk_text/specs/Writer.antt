@@ -6,7 +6,7 @@ use mathlib.Core.List.{List}
 use lib.ListN.{length, take}
 use lib.Seq.{sets}
 use Rattle.rules.specs.Calls.{refused, given}
-use Rattle.rules.specs.Text.{printed}
+use Rattle.desk_rules.specs.Text.{printed}
 
 -- A text is stored from a place on, and nothing else is; the answer is where it ends.
 pub record Put (before : List ℕ) (at : ℕ) (text after : List ℕ) (end : ℕ) : Type 0 where

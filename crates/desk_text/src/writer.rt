@@ -4,8 +4,8 @@ ghost use Prim.Native.Nat.{_+_, _*_, _≤_};
 ghost use lib.ListN.{length};
 ghost use Rattle.lent.specs.Answers.{numbered};
 ghost use Rattle.rules.specs.Calls.{written, fitting};
-ghost use Rattle.rules.specs.Desk.{mostLines};
-ghost use Rattle.rules.specs.Text.{lastDigit, decimal, line, lines};
+ghost use Rattle.desk_rules.specs.Desk.{mostLines};
+ghost use Rattle.desk_rules.specs.Text.{lastDigit, decimal, line, lines};
 ghost use Rattle.desk_text.specs.Writer.{Put, refusedText, foundText};
 use lent::Number;
 

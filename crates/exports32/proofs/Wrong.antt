@@ -36,14 +36,14 @@ use Rattle.exports32.proofs.decoder.eddy32_decode_with_log.Reads as dec
 use Rattle.exports32.proofs.packet.eddy32_serialize.Reads as serialize
 use Rattle.exports32.proofs.packet.eddy32_serialize_with_hint.Reads as serialize-with-hint
 use Rattle.exports32.proofs.packet.eddy32_deserialize.Reads as deserialize
-use Rattle.exports32.proofs.modint.eddy32_reduce.Reads as reduce
-use Rattle.exports32.proofs.modint.eddy32_add.Reads as add
-use Rattle.exports32.proofs.modint.eddy32_minus.Reads as minus
-use Rattle.exports32.proofs.modint.eddy32_neg.Reads as neg
-use Rattle.exports32.proofs.modint.eddy32_mul.Reads as mul
-use Rattle.exports32.proofs.modint.eddy32_inv.Reads as inv
-use Rattle.exports32.proofs.modint.eddy32_pow.Reads as pow
-use Rattle.exports32.proofs.modint.eddy32_pow_multiplications.Reads as pow-multiplications
+use Rattle.exports32.proofs.modint.eddy32_field_reduce.Reads as reduce
+use Rattle.exports32.proofs.modint.eddy32_field_add.Reads as add
+use Rattle.exports32.proofs.modint.eddy32_field_sub.Reads as minus
+use Rattle.exports32.proofs.modint.eddy32_field_neg.Reads as neg
+use Rattle.exports32.proofs.modint.eddy32_field_mul.Reads as mul
+use Rattle.exports32.proofs.modint.eddy32_field_inv.Reads as inv
+use Rattle.exports32.proofs.modint.eddy32_field_pow.Reads as pow
+use Rattle.exports32.proofs.modint.eddy32_field_pow_multiplications.Reads as pow-multiplications
 
 -- What is read off an answer, and off a list.
 abbrev itself : ℕ → ℕ

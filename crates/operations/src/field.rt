@@ -14,18 +14,18 @@ fn eval(args: &[u32], expected: &[u32]) -> bool {
 
 fn of_one(kind: u32, a: u32) -> u32 {
     match kind {
-        14 => modint::eddy32_reduce(a),
-        18 => modint::eddy32_neg(a),
-        19 => modint::eddy32_inv(a),
-        _ => modint::eddy32_pow_multiplications(a),
+        14 => modint::eddy32_field_reduce(a),
+        18 => modint::eddy32_field_neg(a),
+        19 => modint::eddy32_field_inv(a),
+        _ => modint::eddy32_field_pow_multiplications(a),
     }
 }
 
 fn of_two(kind: u32, a: u32, b: u32) -> u32 {
     match kind {
-        15 => modint::eddy32_add(a, b),
-        16 => modint::eddy32_minus(a, b),
-        _ => modint::eddy32_mul(a, b),
+        15 => modint::eddy32_field_add(a, b),
+        16 => modint::eddy32_field_sub(a, b),
+        _ => modint::eddy32_field_mul(a, b),
     }
 }
 
@@ -47,7 +47,7 @@ fn pow(args: &[u32], expected: &[u32]) -> bool {
     if args.len() != 2 {
         return false;
     }
-    let power = modint::eddy32_pow(args[0], args[1]);
+    let power = modint::eddy32_field_pow(args[0], args[1]);
     let value = power.value;
     agree::two(value.value(), power.multiplications, expected)
 }

@@ -5,3 +5,4 @@ pub mod Determined
 pub mod Idle
 pub mod Wrong
 pub mod Promise
+pub mod Witness

@@ -1,7 +1,7 @@
 -- The promise for the calls that run: along any history none of whose calls is refused, the list that `decode_with_log` leaves in the buffer that it was
 -- lent is exact. What a call answers is whatever its contract allows.
 -- Assumes nothing.
-use Prim.Native.Nat.{ℕ, _≤_}
+use Prim.Native.Nat.{ℕ, _*_, _≤_}
 use mathlib.Core.Path.{_≡_, refl, sym, _∙_, ap}
 use mathlib.Core.Bool.{true, false≢true}
 use mathlib.Core.List.{List, _++_}
@@ -11,8 +11,11 @@ use borrow.Author.Tests.{eq-eqb}
 use contract.Lifetimes.{Lfts}
 use denote.Ref.{RefT, now}
 use Rattle.modint32.specs.declared.Code.{Code}
-use Rattle.rules.specs.Kind.{kind32}
+use Rattle.newton.specs.Members.{AllBelow}
+use Rattle.rules.specs.Kind.{kind32, countBytes}
+use Rattle.rules.specs.Field.{residue}
 use Rattle.rules.specs.Sketch.{Sketch}
+use Rattle.rules.specs.Packet.{bytes, number, sumsAt, sumsIn}
 use Rattle.rules.specs.Calls.{Outcome, refused, given}
 use Rattle.rules.specs.History.{History, net}
 use Rattle.rules.specs.Run.{Calls, Ran, LeftIn, missing}
@@ -169,3 +172,16 @@ decode-exact ran left κs log log₁ out out₁ r room p =
 pub same-net : {h g : History} {s o : PowerSumQuackU32} {n : ℕ} → Ran the-calls h s → LeftIn kind32 h (s .threshold) n → Ran the-calls g o
     → LeftIn kind32 g (o .threshold) n → take n (view s .sums) ≡ take n (view o .sums) → (r : ℕ) → net kind32 h r ≡ net kind32 g r
 same-net ran left other also e = run.same-net kind32 the-calls sound ran left other also e
+
+-- ---- a packet
+
+-- A sketch that is read from any bytes is well formed.
+pub read-well-formed : (bs : List ℕ) → AllBelow 256 bs → {s : PowerSumQuackU32} → Read bs s → wellFormedOf s ≡ true
+read-well-formed bs below p = run.read-fits kind32 the-calls sound bs below p
+
+-- A packet read and written again gives its first bytes, as many as its sums say, with the last code reduced.
+pub read-and-written : (bs : List ℕ) → AllBelow 256 bs → {s : PowerSumQuackU32} {again : List ℕ} → Read bs s → Wrote s again
+    → again
+    ≡ take countBytes bs ++ (bytes (kind32 .codeBytes) (residue kind32 (number (take (kind32 .codeBytes) (drop countBytes bs))))
+    ++ take (sumsIn kind32 (length bs) * kind32 .codeBytes) (drop (sumsAt kind32) bs))
+read-and-written bs below p q = run.read-and-written kind32 the-calls sound bs below p q

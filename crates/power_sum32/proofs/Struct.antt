@@ -14,12 +14,19 @@ use Rattle.rules.specs.Sketch.{Sketch, nothing, code, placed, WellFormed}
 use Rattle.rules.proofs.WellFormed.{placed-well-formed, placed-over, threshold-in-range}
 use Rattle.rules.proofs.Mapping.{unwrapped}
 use Rattle.power_sum32.specs.declared.power_sum.PowerSumQuackU32.{PowerSumQuackU32}
+use Rattle.power_sum32.specs.declared.power_sum.Last.{Last}
+use Rattle.power_sum32.specs.declared.power_sum.Last.the-variants.{Nothing, Code}
 use Rattle.power_sum32.specs.Answers.{lastOf, lastTo, view, built, wellFormedOf}
 
 -- A last code goes to the struct and back.
 pub last-back : (a : rules.Last) → lastOf (lastTo a) ≡ a
 last-back nothing = refl
 last-back (code x) = refl
+
+-- It goes to the rules and back.
+pub last-forth : (a : Last) → a ≡ lastTo (lastOf a)
+last-forth Nothing = refl
+last-forth (Code x) = refl
 
 -- A struct that passes the test, with all its places.
 module _ (s : PowerSumQuackU32) (full : length (s .sums) ≡ kind32 .greatest) (ok : wellFormedOf s ≡ true) where

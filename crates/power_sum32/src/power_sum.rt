@@ -154,7 +154,7 @@ impl PowerSumQuackU32 {
     }
 
     pub fn last_value(self) -> Last
-        ensures { λ r. ⌜ r ≡ self .last ⌝ }
+        ensures { λ r. ⌜ r ≡ lastTo (view self .last) ⌝ }
     {
         self.last
     }

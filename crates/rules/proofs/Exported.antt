@@ -14,13 +14,13 @@ use borrow.Rule.Slice.PartMut.{putMid, put-same, same-len-mid}
 use Rattle.rules.specs.Kind.{Kind, counts}
 use Rattle.rules.specs.Field.{residue, difference}
 use Rattle.rules.specs.Sketch as sketch
-use Rattle.rules.specs.Sketch.{Sketch, Last, nothing, code, hasCode, codeOr0, inRange, lastFits}
+use Rattle.rules.specs.Sketch.{Sketch, Last, nothing, code, hasCode, codeOr0, inRange, lastFits, WellFormed}
 use Rattle.rules.specs.Sums.{movedByPowers, differences, common, copied}
 use Rattle.rules.specs.Decode.{coefficients}
 use Rattle.rules.specs.Calls as calls
 use Rattle.rules.specs.Packet.{packet, sumsAt, sumsIn, sketchIn}
 use Rattle.rules.specs.Calls.{Outcome, refused, given, unless, refusalOf, written, fitting, packed, within, readFor, sketchOr, sumsGiven}
-use Rattle.rules.specs.Words.{headWords, wordsFit, saidBy, wordsOf, newIn, insertIn, removeIn, subAssignIn, subIn, writeIn, writeWithHintIn, readIn}
+use Rattle.rules.specs.Words.{headWords, wordsFit, saidBy, wordsOf, newIn, insertIn, removeIn, subAssignIn, subIn, coefficientsIn, decodeIn, writeIn, writeWithHintIn, readIn}
 use Rattle.rules.specs.Words.{inWords, intoWords}
 use Rattle.rules.proofs.Newton.{coefficients-over-part}
 use Rattle.rules.proofs.Bytes.{fitting-short, fitting-given, hint-malformed, hint-packed, refused-by, Reads, read-unrefused}
@@ -29,7 +29,7 @@ use Rattle.rules.proofs.Changing.{differences-parts}
 use Rattle.rules.proofs.Packet.{all-numbers-length, read-some, read-as-many}
 use Rattle.rules.proofs.Mapping.{copied-whole}
 use Rattle.rules.proofs.Each.{each-length}
-use Rattle.rules.proofs.Words.{headed, headed-length, headed-rest, fit-parts, words-stored, without-words}
+use Rattle.rules.proofs.Words.{headed, headed-length, headed-rest, words-fit, sketch-back, fit-parts, words-stored, without-words}
 
 -- ---- words stored
 
@@ -391,3 +391,48 @@ module _ (K : Kind) where
           (ef ∙ words-read out (sketchIn K bs) (omega (arith, four)) (ea ∙ omega (arith, four)) (em ∙ omega (arith, ea, four)) stored-sums
           (et ∙ ap (λ (o : Outcome Sketch). sketchOr o .threshold) (reads .says)) (en ∙ ap (λ (o : Outcome Sketch). sketchOr o .count) (reads .says)) eh
           (el ∙ ap (λ (o : Outcome Sketch). codeOr0 (sketchOr o .last)) (reads .says)))
+
+-- ---- the exported calls beside those by value
+
+-- On the words of a well-formed sketch, whatever stands behind them, each exported call comes to what the call by value comes to, in words.
+module _ (K : Kind) (s : Sketch) (w : WellFormed K s) (rest : List ℕ) where
+  -- Insertion.
+  pub insert-by-value : (c : ℕ) → insertIn K (wordsOf s ++ rest) c ≡ inWords (calls.insert K true s c)
+  unfolding insertIn
+  insert-by-value c = rw (words-fit K s w rest, sketch-back K s w rest)
+
+  -- Removal.
+  pub remove-by-value : (c : ℕ) → removeIn K (wordsOf s ++ rest) c ≡ inWords (calls.remove K true s c)
+  unfolding removeIn
+  remove-by-value c = rw (words-fit K s w rest, sketch-back K s w rest)
+
+  -- Coefficients.
+  pub coefficients-by-value : (places : ℕ) → coefficientsIn K (wordsOf s ++ rest) places ≡ calls.coefficients K true s places
+  unfolding coefficientsIn
+  coefficients-by-value places = rw (words-fit K s w rest, sketch-back K s w rest)
+
+  -- Decoding.
+  pub decode-by-value : (log : List ℕ) (places : ℕ) → decodeIn K (wordsOf s ++ rest) log places ≡ calls.decode K true s log places
+  unfolding decodeIn
+  decode-by-value log places = rw (words-fit K s w rest, sketch-back K s w rest)
+
+  -- Writing.
+  pub write-by-value : (room : ℕ) → writeIn K (wordsOf s ++ rest) room ≡ calls.write K true s room
+  unfolding writeIn
+  write-by-value room = rw (words-fit K s w rest, sketch-back K s w rest)
+
+  -- Writing with a hint.
+  pub hint-by-value : (h room : ℕ) → writeWithHintIn K (wordsOf s ++ rest) h room ≡ calls.writeWithHint K true s h room
+  unfolding writeWithHintIn
+  hint-by-value h room = rw (words-fit K s w rest, sketch-back K s w rest)
+
+  module _ (o : Sketch) (v : WellFormed K o) (more : List ℕ) where
+    -- Subtraction in place.
+    pub sub-assign-by-value : subAssignIn K (wordsOf s ++ rest) (wordsOf o ++ more) ≡ inWords (calls.subAssign K true s o)
+    unfolding subAssignIn
+    sub-assign-by-value = rw (words-fit K s w rest, sketch-back K s w rest, words-fit K o v more, sketch-back K o v more)
+
+    -- Subtraction.
+    pub sub-by-value : (places : ℕ) → subIn K (wordsOf s ++ rest) (wordsOf o ++ more) places ≡ intoWords places (calls.sub K true s o)
+    unfolding subIn
+    sub-by-value places = rw (words-fit K s w rest, sketch-back K s w rest, words-fit K o v more, sketch-back K o v more)

@@ -22,7 +22,4 @@ pub mod Promise
 pub mod Run
 pub mod Determined
 pub mod Cases
-pub mod Desk
-pub mod Text
-pub mod Room
-pub mod Missing
+pub mod Witness

@@ -358,3 +358,13 @@ module _ (K : Kind) (bs : List ℕ) (s : Sketch) (e : read K bs ≡ given s) whe
 
         room : sumsIn K (length bs) * K .codeBytes ≤ length (drop (sumsAt K) bs)
         room = omega (arith, length-drop (sumsAt K) bs, div-add-mod' (length bs - sumsAt K) (K .codeBytes))
+
+    -- So it is of the bytes that writing gives.
+    pub given-again : (room : ℕ) (again : List ℕ) → write K true s room ≡ given again
+        → again
+        ≡ take countBytes bs ++ (bytes (K .codeBytes) (residue K (number (take (K .codeBytes) (drop countBytes bs)))) ++ take (s .threshold * K .codeBytes)
+        (drop (sumsAt K) bs))
+    unfolding write
+    given-again room again e =
+        let there = packed-given K s (s .threshold) room again (s .last) e in
+        there .1 .1 ∙ written-again (there .0) (there .1 .0)

@@ -1,14 +1,17 @@
 -- The promise for calls that run: along any history none of whose calls is refused, the list that decoding leaves in the buffer that it was lent is exact.
 -- For any form of a sketch whose calls answer what the rules say of the sketch that the form stands for.
 -- Assumes nothing.
-use Prim.Native.Nat.{ℕ, _≤_}
+use Prim.Native.Nat.{ℕ, _*_, _≤_}
 use mathlib.Core.Path.{_≡_, sym, _∙_, ap, subst}
 use mathlib.Core.Bool.{true, _&&_}
 use mathlib.Core.List.{List, _++_}
 use lib.Dec.{eqb}
 use lib.ListN.{length, take, drop}
 use borrow.Author.Tests.{eqb-true}
-use Rattle.rules.specs.Kind.{Kind}
+use Rattle.rules.specs.Kind.{Kind, countBytes}
+use Rattle.newton.specs.Members.{AllBelow}
+use Rattle.rules.specs.Field.{residue}
+use Rattle.rules.specs.Packet.{bytes, number, sumsAt, sumsIn, sketchIn}
 use Rattle.rules.specs.Sketch as sketch
 use Rattle.rules.specs.Sketch.{Sketch, WellFormed, inRange}
 use Rattle.rules.specs.Calls as calls
@@ -17,7 +20,7 @@ use Rattle.rules.specs.History as history
 use Rattle.rules.specs.History.{History, sketchOf, Allowed, net, Leaves}
 use Rattle.rules.specs.Run.{Calls, Ran, made, inserted, removed, subtractedInPlace, subtracted, carried, carriedByHint, LeftIn, missing}
 use Rattle.rules.proofs.WellFormed.{in-range-parts}
-use Rattle.rules.proofs.Packet.{passed, hint-unrefused}
+use Rattle.rules.proofs.Packet.{passed, hint-unrefused, read-is-said, read-well-formed, given-again}
 use Rattle.rules.proofs.Promise as promise
 
 module _ (K : Kind) (C : Calls) where
@@ -183,3 +186,24 @@ module _ (K : Kind) (C : Calls) (sound : Sound K C) where
     where
       sums : {k : History} {q : C .Form} → Ran C k q → take n (C .view q .sums) ≡ take n (sketchOf K k .sums)
       sums run = ap (λ (g : Sketch). take n (g .sums)) (follows run .stands .is)
+
+  -- ---- a packet
+
+  -- A form that is read from any bytes is well formed.
+  pub read-fits : (bs : List ℕ) → AllBelow 256 bs → {s : C .Form} → C .reads bs s → C .fits s ≡ true
+  read-fits bs below {s} p =
+      let g = sound .reads bs s p in
+      g .stands (read-well-formed K bs (g .sketch-given) (g .comes) below) .fits
+
+  -- Read and written again, a packet gives its first bytes, as many as its sums say, with the last code reduced.
+  pub read-and-written : (bs : List ℕ) → AllBelow 256 bs → {s : C .Form} {again : List ℕ} → C .reads bs s → C .writes s again
+      → again
+      ≡ take countBytes bs ++ (bytes (K .codeBytes) (residue K (number (take (K .codeBytes) (drop countBytes bs))))
+      ++ take (sumsIn K (length bs) * K .codeBytes) (drop (sumsAt K) bs))
+  unfolding sketchIn
+  read-and-written bs below {s} {again} p q =
+      let g = sound .reads bs s p in
+      let st = g .stands (read-well-formed K bs (g .sketch-given) (g .comes) below) in
+      let w = sound .writes s again q in
+      let many : g .sketch-given .threshold ≡ sumsIn K (length bs) = ap (λ (k : Sketch). k .threshold) (read-is-said K bs (g .sketch-given) (g .comes)) in
+      given-again K bs (g .sketch-given) (g .comes) below (w .0) again (rw (st .fits, st .is) at (w .1)) ∙ rw many

@@ -4,13 +4,13 @@ use Prim.Native.Nat.{ℕ, zero, suc}
 use mathlib.Core.Bool.{Bool, true, false, cond, _&&_}
 use mathlib.Core.List.{List, [], _∷_, _++_, map}
 use lib.Dec.{eqb}
-use lib.ListN.{replicate}
+use lib.ListN.{length, replicate}
 use Rattle.numbers.specs.Power.{powerWithin, powerMod}
 use Rattle.rules.specs.Kind.{kind32}
 use Rattle.rules.specs.Field.{residue, plus, minus, times, power, multiplicationsWithin, multiplications, inverse}
 use Rattle.rules.specs.Sketch.{Sketch, Last, nothing, code, fresh, insert, remove, wellFormed}
 use Rattle.rules.specs.Calls as calls
-use Rattle.rules.specs.Calls.{Outcome, refused, given}
+use Rattle.rules.specs.Calls.{Outcome, refused, given, refusalOf, lengthOf, written, sketchOr}
 
 -- A case: the numbers that the rules give, and the numbers that the requirements give.
 pub record Case : Type 0 where
@@ -148,7 +148,38 @@ refusalCases =
     ∷ gives (map (λ (sum : ℕ). cond (wellFormed kind32 1 (sum ∷ []) nothing) 0 12) (4294967290 ∷ 4294967291 ∷ [])) (0 ∷ 12 ∷ [])
     ∷ []
 
+-- What a call that makes a sketch hands back: its refusal, and then the sketch's threshold, count, number of sums, and last code.
+abbrev handing : Outcome Sketch → List ℕ
+handing o =
+    let s = sketchOr o in
+    refusalOf o ∷ s .threshold ∷ s .count ∷ length (s .sums) ∷ lastList (s .last)
+
+-- What a call leaves with its caller: the number that it tells, and then the lent buffer.
+abbrev leaving : Outcome (List ℕ) → List ℕ → List ℕ
+leaving o buffer = lengthOf o ∷ written o buffer
+
+-- What refused calls hand back: making and reading no sketch, and the others the lent buffer as it was, with the number 0. Beside each, the same of a call
+-- that is not refused.
+unfoldable pub handedCases : List Case
+unfolding inserts
+handedCases =
+    let both = inserts (fresh 3) (10 ∷ 12 ∷ []) in
+    let room : List ℕ = 91 ∷ 92 ∷ 93 ∷ 94 ∷ [] in
+    gives (handing (calls.make kind32 0)) (1 ∷ 0 ∷ 0 ∷ 0 ∷ [])
+    ∷ gives (handing (calls.make kind32 33)) (1 ∷ 0 ∷ 0 ∷ 0 ∷ [])
+    ∷ gives (handing (calls.make kind32 32)) (0 ∷ 32 ∷ 0 ∷ 32 ∷ [])
+    ∷ gives (handing (calls.read kind32 (replicate 7 1))) (6 ∷ 0 ∷ 0 ∷ 0 ∷ [])
+    ∷ gives (handing (calls.read kind32 (replicate 11 1))) (7 ∷ 0 ∷ 0 ∷ 0 ∷ [])
+    ∷ gives (handing (calls.read kind32 (replicate 12 255))) (8 ∷ 0 ∷ 0 ∷ 0 ∷ [])
+    ∷ gives (handing (calls.read kind32 (replicate 12 1))) (0 ∷ 1 ∷ 16843009 ∷ 1 ∷ 16843009 ∷ [])
+    ∷ gives (leaving (calls.coefficients kind32 true both 1) room) (0 ∷ room)
+    ∷ gives (leaving (calls.coefficients kind32 true both 4) room) (2 ∷ 4294967269 ∷ 120 ∷ 93 ∷ 94 ∷ [])
+    ∷ gives (leaving (calls.decode kind32 true both (9 ∷ 10 ∷ []) 1) room) (0 ∷ room)
+    ∷ gives (leaving (calls.decode kind32 true both (9 ∷ 10 ∷ []) 4) room) (1 ∷ 10 ∷ 92 ∷ 93 ∷ 94 ∷ [])
+    ∷ gives (leaving (calls.write kind32 true both 4) room) (0 ∷ room)
+    ∷ []
+
 -- The whole table.
 unfoldable pub cases : List Case
-unfolding fieldCases decodeCases removeCases packetCases limitCases refusalCases
-cases = fieldCases ++ (decodeCases ++ (removeCases ++ (packetCases ++ (limitCases ++ refusalCases))))
+unfolding fieldCases decodeCases removeCases packetCases limitCases refusalCases handedCases
+cases = fieldCases ++ (decodeCases ++ (removeCases ++ (packetCases ++ (limitCases ++ (refusalCases ++ handedCases)))))

@@ -11,6 +11,3 @@ pub mod Words
 pub mod Run
 pub mod Determines
 pub mod Cases
-pub mod Lines
-pub mod Desk
-pub mod Text

@@ -5,7 +5,7 @@ use native.Mathlib.Omega.{arith}
 use lib.ListN.{take, replicate}
 use lib.Seq.{length-take-le}
 use borrow.Author.Needs.{needs}
-use Rattle.rules.specs.Desk.{mostLines}
+use Rattle.desk_rules.specs.Desk.{mostLines}
 use Rattle.power_sum32.proofs.power_sum.PowerSumQuackU32.sub_assign.Reads as sub-assign
 use Rattle.power_sum32.proofs.power_sum.PowerSumQuackU32.decode_with_log.Reads as decode-with-log
 use Rattle.desk_text.proofs.Decision.{Listed, listed-given, listed-few, listed-within, listed-taken}

@@ -6,7 +6,7 @@ use native.Mathlib.Omega.{arith}
 use lib.ListN.{length-set}
 use borrow.Fn.Kinds.{In}
 use borrow.Fn.PlainCycle.{Measures, is, falls, and}
-use Rattle.rules.proofs.Text.{decimal-digit, decimal-digits}
+use Rattle.desk_rules.proofs.Text.{decimal-digit, decimal-digits}
 use Rattle.desk_text.proofs.Stores.{put-byte, put-then, put-length, put-as, one-digit, more-digits}
 use Rattle.desk_text.proofs.writer.put_decimal.Reads as put-decimal
 use Rattle.desk_text.proofs.writer.put_decimal.Kinds as put-decimal-kinds

@@ -1,7 +1,7 @@
 -- A word, the digits of a number, of which there are at most twenty, and LF.
 -- Assumes nothing.
 use native.Mathlib.Omega.{arith}
-use Rattle.rules.proofs.Text.{line-length}
+use Rattle.desk_rules.proofs.Text.{line-length}
 use Rattle.desk_text.proofs.Stores.{few-digits}
 use Rattle.desk_text.proofs.writer.line_len.Statement.{statement}
 use Rattle.desk_text.proofs.writer.line_len.Tie as tie

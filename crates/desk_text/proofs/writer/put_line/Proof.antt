@@ -2,8 +2,8 @@
 -- Assumes nothing.
 use native.Mathlib.Omega.{arith}
 use borrow.Author.Needs.{needs}
-use Rattle.rules.specs.Text.{line}
-use Rattle.rules.proofs.Text.{line-length}
+use Rattle.desk_rules.specs.Text.{line}
+use Rattle.desk_rules.proofs.Text.{line-length}
 use Rattle.desk_text.proofs.Stores.{put-then, put-length}
 use Rattle.desk_text.proofs.writer.put_line.Statement.{statement}
 use Rattle.desk_text.proofs.writer.put_line.Tie as tie

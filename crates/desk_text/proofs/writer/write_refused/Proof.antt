@@ -2,7 +2,7 @@
 -- Assumes nothing.
 use native.Mathlib.Omega.{arith}
 use borrow.Author.Needs.{needs}
-use Rattle.rules.specs.Text.{refusalWord, line, printed}
+use Rattle.desk_rules.specs.Text.{refusalWord, line, printed}
 use Rattle.desk_text.proofs.Stores.{text-fits, text-short}
 use Rattle.desk_text.proofs.writer.write_refused.Statement.{statement}
 use Rattle.desk_text.proofs.writer.write_refused.Tie as tie

@@ -12,7 +12,7 @@ use lib.ListN.{length, getD, take, drop, length-append, take-append-drop}
 use lib.Seq.{take-suc}
 use borrow.Author.Tests.{lt-ltb, le-ltb, ltb-true, ltb-false}
 use Rattle.newton.specs.Members.{AllBelow}
-use Rattle.rules.specs.Text.{lastDigit, decimalWithin, decimal, line, lines}
+use Rattle.desk_rules.specs.Text.{lastDigit, decimalWithin, decimal, line, lines}
 
 -- ---- the digits of a number
 

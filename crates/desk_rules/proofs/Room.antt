@@ -11,19 +11,19 @@ use lib.ListN.{length, length-append}
 use borrow.Author.Tests.{leb-true, ltb-true}
 use Rattle.newton.specs.Members.{AllBelow}
 use Rattle.newton.proofs.Permutation.{all-below-append}
 use Rattle.rules.specs.Kind.{Kind, counts}
 use Rattle.rules.specs.Sketch.{Sketch, inRange, subtract}
 use Rattle.rules.specs.Decode as decoding
 use Rattle.rules.specs.Decode.{evaluate, coefficients, keep}
 use Rattle.rules.specs.Calls as calls
 use Rattle.rules.specs.Calls.{Outcome, refused, given, unless}
-use Rattle.rules.specs.Lines.{Line, threshold, log, got, bad, some, none, wellBegun, allDigits, decimalValue, greatestNumber, number, valued, keyed}
-use Rattle.rules.specs.Lines.{orElse, thresholdWord, logWord, gotWord, parsed, cut}
-use Rattle.rules.specs.Desk.{mostLines, Seen, unbegun, logs, gots, stopped, next, allLines, closed, readLines, sketchOfCodes, Report, reported, decided}
-use Rattle.rules.specs.Desk.{outcome}
-use Rattle.rules.specs.Text.{refusalWord, countWord, foundWord, missingWord, printed, deskAnswer}
+use Rattle.desk_rules.specs.Lines.{Line, threshold, log, got, bad, some, none, wellBegun, allDigits, decimalValue, greatestNumber, number, valued, keyed}
+use Rattle.desk_rules.specs.Lines.{orElse, thresholdWord, logWord, gotWord, parsed, cut}
+use Rattle.desk_rules.specs.Desk.{mostLines, Seen, unbegun, logs, gots, stopped, next, allLines, closed, readLines, sketchOfCodes, Report, reported, decided}
+use Rattle.desk_rules.specs.Desk.{outcome}
+use Rattle.desk_rules.specs.Text.{refusalWord, countWord, foundWord, missingWord, printed, deskAnswer}
 use Rattle.rules.proofs.Each.{and-second}
-use Rattle.rules.proofs.Text.{line-short, lines-short}
+use Rattle.desk_rules.proofs.Text.{line-short, lines-short}
 
 -- A number that is printed in at most twenty digits.
 abbrev Small : ℕ → Type 0

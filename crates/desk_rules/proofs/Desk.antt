@@ -8,18 +8,19 @@ use mathlib.Core.List.{List, [], _∷_, _++_, append-nil, append-assoc, foldl}
 use native.Mathlib.Nat.{pow-le-pow-right, le-trans}
 use native.Mathlib.Omega.{arith}
 use lib.Dec.{leb, eqb}
-use borrow.Author.Tests.{le-leb, lt-leb, eqb-true, leb-true, leb-false}
+use lib.ListN.{length}
+use borrow.Author.Tests.{le-leb, lt-leb, lt-ltb, le-ltb, eqb-true, leb-true, leb-false}
 use Rattle.numbers.specs.Power.{powerWithin, powerMod}
 use Rattle.rules.specs.Kind.{Kind, kind32}
-use Rattle.rules.specs.Sketch.{each, fresh, insert, subtract}
+use Rattle.rules.specs.Sketch.{Sketch, nothing, each, fresh, insert, subtract}
 use Rattle.rules.specs.Decode as decoding
 use Rattle.rules.specs.Decode.{newestFirst, coefficients, evaluate}
 use Rattle.rules.specs.Calls as calls
-use Rattle.rules.specs.Lines.{bytesOf, LF, Cut, inFront, cut, greatestNumber, isDigit, allDigits, decimalValue, wellBegun, Number, some, none, number}
-use Rattle.rules.specs.Lines.{keyed, parsed}
-use Rattle.rules.specs.Desk.{Seen, unbegun, next, allLines, closed, readLines, decided, outcome}
-use Rattle.rules.specs.Text.{decimalWithin, decimal, line, lines, printed, deskAnswer}
+use Rattle.desk_rules.specs.Lines.{bytesOf, LF, Cut, inFront, cut, greatestNumber, isDigit, allDigits, decimalValue, wellBegun, Number, some, none, number}
+use Rattle.desk_rules.specs.Lines.{log, keyed, parsed}
+use Rattle.desk_rules.specs.Desk.{mostLines, Seen, unbegun, logs, stopped, next, allLines, closed, readLines, decided, outcome}
+use Rattle.desk_rules.specs.Text.{decimalWithin, decimal, line, lines, printed, deskAnswer}
 use Rattle.rules.proofs.Each.{and-second}
 
 -- ---- a number, digit by digit
 
@@ -167,7 +168,8 @@ abbrev Gives : String → String → Type 0
 Gives input output = deskAnswer kind32 (bytesOf input) ≡ bytesOf output
 
 -- The page's example; the threshold 0, with LF and without; an empty input; more lacking than the threshold allows; piece 2 before piece 10; repeats
--- in the log; a bad line before another; and a number above the greatest code.
+-- in the log; more entries listed than are missing; a leading zero, and one behind a line that decides already; a number above the greatest code; a second
+-- threshold line; and behind got lines a log line, and bytes without LF.
 pub examples : Gives "threshold=3\nlog=1\nlog=2\nlog=10\ngot=1\ngot=10\n" "refusal=0\nthreshold=3\ncount=1\nfound=1\nmissing=2\n"
     × Gives "threshold=0\n" "refusal=1\n"
     × Gives "threshold=0" "refusal=9\n"
@@ -175,8 +177,28 @@ pub examples : Gives "threshold=3\nlog=1\nlog=2\nlog=10\ngot=1\ngot=10\n" "refus
     × Gives "threshold=1\nlog=7\nlog=9\n" "refusal=4\n"
     × Gives "threshold=2\nlog=2\nlog=10\n" "refusal=0\nthreshold=2\ncount=2\nfound=2\nmissing=2\nmissing=10\n"
     × Gives "threshold=2\nlog=9\nlog=7\nlog=9\ngot=7\n" "refusal=0\nthreshold=2\ncount=2\nfound=2\nmissing=9\nmissing=9\n"
-    × Gives "threshold=1\nlog=01\nthreshold=0\n" "refusal=9\n"
+    × Gives "threshold=1\nlog=9\nlog=7\nlog=9\ngot=7\ngot=9\n" "refusal=0\nthreshold=1\ncount=1\nfound=2\nmissing=9\nmissing=9\n"
+    × Gives "threshold=1\nlog=01\n" "refusal=9\n"
+    × Gives "threshold=0\nlog=01\n" "refusal=1\n"
     × Gives "threshold=1\nlog=4294967296\n" "refusal=9\n"
+    × Gives "threshold=1\nthreshold=1\n" "refusal=9\n"
+    × Gives "threshold=1\nlog=9\ngot=9\nlog=7\n" "refusal=9\n"
+    × Gives "threshold=1\nlog=9\ngot=9\ngot=9" "refusal=9\n"
 unfolding deskAnswer printed lines line decimal decimalWithin outcome decided readLines closed next cut inFront parsed keyed number wellBegun allDigits
     decimalValue calls.decode decoding.decode evaluate coefficients newestFirst subtract insert fresh each powerMod powerWithin
-examples = (refl, refl, refl, refl, refl, refl, refl, refl, refl)
+examples = (refl, refl, refl, refl, refl, refl, refl, refl, refl, refl, refl, refl, refl, refl)
+
+-- After 8,191 log lines the next is taken.
+pub last-log-line : (K : Kind) (T c : ℕ) (l : List ℕ) → length l ≡ 8191 → next K (logs T l) (log c) ≡ logs T (l ++ (c ∷ []))
+unfolding next
+last-log-line K T c l e = rw (lt-ltb (length l) mostLines (omega arith))
+
+-- After 8,192 log lines the next is refused by 10.
+pub one-log-line-more : (K : Kind) (T c : ℕ) (l : List ℕ) → length l ≡ 8192 → next K (logs T l) (log c) ≡ stopped 10
+unfolding next
+one-log-line-more K T c l e = rw (le-ltb (length l) mostLines (omega arith))
+
+-- A subtraction keeps no last code.
+pub subtraction-keeps-no-last : (K : Kind) (s o : Sketch) → subtract K s o .last ≡ nothing
+unfolding subtract
+subtraction-keeps-no-last K s o = refl

@@ -5,11 +5,11 @@ use mathlib.Core.Bool.{true, cond}
 use mathlib.Core.List.{List, [], _∷_, _++_, foldl}
 use lib.Dec.{ltb}
 use lib.ListN.{length}
 use Rattle.rules.specs.Kind.{Kind}
 use Rattle.rules.specs.Sketch.{Sketch, inRange, fresh, insert, subtract}
 use Rattle.rules.specs.Calls as calls
 use Rattle.rules.specs.Calls.{Outcome, refused, given}
-use Rattle.rules.specs.Lines.{Line, threshold, log, got, bad, parsed, Cut}
+use Rattle.desk_rules.specs.Lines.{Line, threshold, log, got, bad, parsed, Cut}
 
 -- ---- the lines, one after the other
 

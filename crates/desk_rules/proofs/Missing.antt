@@ -6,15 +6,15 @@ use mathlib.Core.List.{List, [], _∷_, foldl}
 use native.Mathlib.Omega.{arith}
 use lib.Dec.{ltb}
 use lib.ListN.{length}
 use Rattle.rules.specs.Kind.{Kind}
 use Rattle.rules.specs.Field.{residue}
 use Rattle.rules.specs.Sketch as sketch
 use Rattle.rules.specs.Sketch.{Sketch, subtract}
 use Rattle.rules.specs.Decode.{keep}
 use Rattle.rules.specs.Calls.{given}
 use Rattle.rules.specs.History.{History, fresh, insert, subAssign, sketchOf, net, Leaves}
-use Rattle.rules.specs.Desk.{logs, gots, sketchOfCodes, Report, decided, outcome}
+use Rattle.desk_rules.specs.Desk.{logs, gots, sketchOfCodes, Report, decided, outcome}
 use Rattle.rules.proofs.Promise.{count-exact, decode-exact}
 
 -- The history of an input: the codes of its log lines are put in, and the sketch of its got lines is subtracted.
 abbrev pub inserted : History → List ℕ → History

@@ -5,10 +5,10 @@ use mathlib.Core.Bool.{cond}
 use mathlib.Core.List.{List, [], _∷_, _++_}
 use lib.Dec.{ltb}
 use lib.ListN.{length}
 use Rattle.rules.specs.Kind.{Kind}
 use Rattle.rules.specs.Calls.{Outcome, refused, given}
-use Rattle.rules.specs.Lines.{bytesOf, LF, thresholdWord, cut}
-use Rattle.rules.specs.Desk.{Report, readLines, outcome}
+use Rattle.desk_rules.specs.Lines.{bytesOf, LF, thresholdWord, cut}
+use Rattle.desk_rules.specs.Desk.{Report, readLines, outcome}
 
 -- ---- numbers
 

@@ -1,0 +1,2 @@
+-- The laws of what reads hand over.
+mod Input
