@@ -70,35 +70,35 @@ class Player:
     def deserialize(self, slot, *data):
         return self.store(slot, second.read(data))
 
-    def reduce(self, a):
+    def field_reduce(self, a):
         return [second.residue(a)]
 
-    def add(self, a, b):
+    def field_add(self, a, b):
         return [second.add(a, b)]
 
     def field_sub(self, a, b):
         return [second.subtract(a, b)]
 
-    def mul(self, a, b):
+    def field_mul(self, a, b):
         return [second.multiply(a, b)]
 
-    def neg(self, a):
+    def field_neg(self, a):
         return [second.negate(a)]
 
-    def inv(self, a):
+    def field_inv(self, a):
         return [second.inverse(a)]
 
-    def pow(self, a, exponent):
+    def field_pow(self, a, exponent):
         return [*second.power(a, exponent)]
 
-    def pow_multiplications(self, exponent):
+    def field_pow_multiplications(self, exponent):
         return [second.power_multiplications(exponent)]
 
 
 # A kind's number is its place here, from 1.
 KINDS = ["new", "put", "well_formed", "insert", "remove", "sub_assign", "sub", "to_coeffs", "eval", "decode_with_log",
-         "serialize", "serialize_with_hint", "deserialize", "reduce", "add", "field_sub", "mul", "neg", "inv", "pow",
-         "pow_multiplications"]
+         "serialize", "serialize_with_hint", "deserialize", "field_reduce", "field_add", "field_sub", "field_mul",
+         "field_neg", "field_inv", "field_pow", "field_pow_multiplications"]
 
 
 def parts(line):
@@ -135,7 +135,7 @@ def main():
     with source:
         made, refusals, differences = check(source)
     for kind in KINDS:
-        print(f"  {kind:20}{made[kind]:>10}")
+        print(f"  {kind:26}{made[kind]:>10}")
     print("  refused by " + ", ".join(f"{n}: {refusals[n]}" for n in sorted(refusals) if n))
     print(f"compared {sum(made.values())} operations with the second program: {differences} differences")
     return 1 if differences or not made else 0

@@ -4,8 +4,20 @@
  * A sketch is a small summary of a collection of codes. Keep one of what was sent and one of what arrived, subtract the second from the
  * first, and decode: out of the log of what was sent come the entries that did not arrive.
  *
- * The functions are those of the crate exports32, whose contracts are proved. `rt staticlib exports32` writes
- * target/staticlib/libexports32.a, for x86-64 Linux; link it after the program's own objects.
+ * The functions are those of the crate exports32, whose contracts are proved.
+ *
+ *
+ * How to link
+ *
+ * `bindings/archive` proves the crate and writes target/lib/MACHINE/libeddybridge32.a, MACHINE being what `uname -m` says. Link it after
+ * the program's own objects; it needs nothing but the C library.
+ *
+ *     bindings/archive
+ *     cc -I include program.c target/lib/$(uname -m)/libeddybridge32.a -o program
+ *
+ * The Rattle toolchain makes archives for x86-64 Linux, and such an archive does not link on Arm. There `bindings/archive` goes by way of
+ * `bench/native-kit`: the same proved functions, through the same compiler, for the machine at hand. `bindings/archive x86_64` makes the
+ * toolchain's own archive on any machine.
  *
  *
  * Codes and residues
@@ -18,14 +30,14 @@
  *
  * A sketch of threshold T is the first EDDY32_WORDS(T) words, 4 + T, of an array that the caller owns:
  *
- *     word 0           the threshold T, from 1 to EDDY32_GREATEST: how many entries can be found missing
+ *     word 0           the threshold T, from 1 to EDDY32_MAX_THRESHOLD: how many entries can be found missing
  *     word 1           the count, modulo 2^32
  *     word 2           1 if there is a last code, 0 if there is none
  *     word 3           the residue of the last code, 0 if there is none
  *     words 4 to T + 3 the T sums, each below the modulus
  *
  * The array has at least these words, and is passed with its length or any other from 4 + T on. What stands behind the 4 + T words is
- * neither read nor written. An array of EDDY32_MOST_WORDS words has room for every sketch.
+ * neither read nor written. An array of EDDY32_MAX_WORDS words has room for every sketch.
  *
  * Words that do not keep to this are no sketch, and neither are fewer than the 4 + T that word 0 says, nor fewer than 4: refusal 12. So every
  * sketch has one form in words, and two sketches are equal where their words are. They may be copied, kept and compared like any others.
@@ -40,22 +52,25 @@
  *
  * Refusals
  *
- * Every call takes every input. A call that cannot do what it is asked answers the number of a refusal, 0 where nothing is refused:
+ * Every call takes every input. A call that cannot do what it is asked answers the number of a refusal, one of the constants below, and
+ * EDDY32_OK, which is 0, where nothing is refused. Of several that are due, the first in the order that stands beside the function is
+ * answered: 12 before all others, 5 after all others. Where a call is refused, every other number of its answer is 0, and all that was lent
+ * to it stays as it was.
  *
- *      1  the threshold is 0 or above EDDY32_GREATEST
- *      2  the thresholds differ
- *      3  there is no last code
- *      4  the count is above the threshold
- *      5  a slice to write to is too short: it has fewer than 4 + T words for a sketch, fewer places than the count for coefficients or than
- *         the log for a decoding, or fewer bytes than the packet
- *      6  fewer than 8 bytes
- *      7  no sum, or more than EDDY32_GREATEST
- *      8  a sum that is read, or a coefficient, is the modulus or more
- *     11  no coefficient
- *     12  a sketch given is not well formed
  *
- * Of several that are due, the first in the order that stands beside the function is answered: 12 before all others, 5 after all others.
- * Where a call is refused, every other number of its answer is 0, and all that was lent to it stays as it was.
+ * When the list is exact
+ *
+ * A fresh sketch has nothing in it. Inserting a code puts its residue in, and removing a code takes its residue out. Subtracting a sketch
+ * takes out what was put into that one, and puts in what was taken out of it. A sketch read from a packet goes on from the one written.
+ *
+ * eddy32_decode_with_log is exact as long as
+ *
+ *     each residue was taken out at most as often as it was put in, and
+ *     at most T are left in all, repeats counted, T being the threshold of the sketch that is decoded.
+ *
+ * Then it lists the entries of the log whose residue is left, in the log's order, and no others. An entry that stands several times in the
+ * log is listed each time. Where more than T are left, and fewer than 2^32, it is refused by 4. Where a residue was taken out more often
+ * than it was put in, no sketch can tell, and what is listed means nothing.
  *
  *
  * An example (include/example.c is the whole program)
@@ -84,14 +99,65 @@
 extern "C" {
 #endif
 
+/* The version of this header and of the functions. */
+#define EDDY32_VERSION "0.1.0"
+#define EDDY32_VERSION_MAJOR 0
+#define EDDY32_VERSION_MINOR 1
+#define EDDY32_VERSION_PATCH 0
+
+/* The prime, 2^32 - 5. */
 #define EDDY32_MODULUS 4294967291u
 
 /* The greatest threshold. */
-#define EDDY32_GREATEST 32
+#define EDDY32_MAX_THRESHOLD 32
 
 /* The words of a sketch of threshold t, and of one of the greatest threshold. */
 #define EDDY32_WORDS(t) (4 + (t))
-#define EDDY32_MOST_WORDS EDDY32_WORDS(EDDY32_GREATEST)
+#define EDDY32_MAX_WORDS EDDY32_WORDS(EDDY32_MAX_THRESHOLD)
+
+/* The bytes of the packet of a sketch of threshold t, and of one of the greatest threshold. */
+#define EDDY32_PACKET_BYTES(t) (8 + 4 * (t))
+#define EDDY32_MAX_PACKET_BYTES EDDY32_PACKET_BYTES(EDDY32_MAX_THRESHOLD)
+
+
+/* ---- refusals; 9 and 10 are the desk program's alone ---- */
+
+/* Nothing is refused. */
+#define EDDY32_OK 0
+
+/* The threshold is 0 or above EDDY32_MAX_THRESHOLD. */
+#define EDDY32_THRESHOLD_OUT_OF_RANGE 1
+
+/* The thresholds differ. */
+#define EDDY32_THRESHOLDS_DIFFER 2
+
+/* There is no last code. */
+#define EDDY32_NO_LAST_CODE 3
+
+/* The count is above the threshold. */
+#define EDDY32_COUNT_ABOVE_THRESHOLD 4
+
+/* A slice to write to is too short: it has fewer than 4 + T words for a sketch, fewer places than the count for coefficients or than the
+   log for a decoding, or fewer bytes than the packet. */
+#define EDDY32_BUFFER_TOO_SHORT 5
+
+/* Fewer than 8 bytes. */
+#define EDDY32_PACKET_TOO_SHORT 6
+
+/* No sum, or more than EDDY32_MAX_THRESHOLD. */
+#define EDDY32_SUMS_OUT_OF_RANGE 7
+
+/* A sum that is read, or a coefficient, is the modulus or more. */
+#define EDDY32_NOT_REDUCED 8
+
+/* No coefficient. */
+#define EDDY32_NO_COEFFICIENT 11
+
+/* A sketch given is not well formed. */
+#define EDDY32_NOT_WELL_FORMED 12
+
+
+/* ---- answers of two numbers ---- */
 
 /* How many numbers or bytes were written; or a refusal, and 0. */
 typedef struct {
@@ -151,8 +217,8 @@ eddy32_number eddy32_decode_with_log(const uint32_t *s, size_t s_len, const uint
 
 /* ---- packets ---- */
 
-/* Writes the sketch as 8 + 4 T bytes, each number lowest byte first: count, last code, sums. Later bytes stay. The value is the number of
-   bytes. Refusals: 12, 3, 5. */
+/* Writes the sketch as EDDY32_PACKET_BYTES(T) bytes, each number lowest byte first: count, last code, sums. Later bytes stay. The value is
+   the number of bytes. Refusals: 12, 3, 5. */
 eddy32_number eddy32_serialize(const uint32_t *s, size_t s_len, uint8_t *buf, size_t buf_len);
 
 /* The same with at most `hint` sums; the count stays that of all. Refusals: 12, 3, 5. */
@@ -166,28 +232,28 @@ uint32_t eddy32_deserialize(const uint8_t *buf, size_t buf_len, uint32_t *out, s
 /* ---- the field of codes modulo EDDY32_MODULUS; every answer is a residue ---- */
 
 /* The residue of c. */
-uint32_t eddy32_reduce(uint32_t c);
+uint32_t eddy32_field_reduce(uint32_t c);
 
 /* a + b. */
-uint32_t eddy32_add(uint32_t a, uint32_t b);
+uint32_t eddy32_field_add(uint32_t a, uint32_t b);
 
-/* a - b. (eddy32_sub is on sketches.) */
-uint32_t eddy32_minus(uint32_t a, uint32_t b);
+/* a - b. */
+uint32_t eddy32_field_sub(uint32_t a, uint32_t b);
 
 /* -a. */
-uint32_t eddy32_neg(uint32_t a);
+uint32_t eddy32_field_neg(uint32_t a);
 
 /* a times b. */
-uint32_t eddy32_mul(uint32_t a, uint32_t b);
+uint32_t eddy32_field_mul(uint32_t a, uint32_t b);
 
 /* The inverse of a; 0 for 0. */
-uint32_t eddy32_inv(uint32_t a);
+uint32_t eddy32_field_inv(uint32_t a);
 
 /* a to the power e, which is not reduced; 1 for the exponent 0. */
-eddy32_power eddy32_pow(uint32_t a, uint32_t e);
+eddy32_power eddy32_field_pow(uint32_t a, uint32_t e);
 
-/* The number of multiplications of eddy32_pow alone. */
-uint32_t eddy32_pow_multiplications(uint32_t e);
+/* The number of multiplications of eddy32_field_pow alone. */
+uint32_t eddy32_field_pow_multiplications(uint32_t e);
 
 #ifdef __cplusplus
 }

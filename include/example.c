@@ -1,14 +1,10 @@
 /*
  * The example of eddybridge32.h, whole: which of the codes in the log did not arrive, what a sketch is as bytes, and what a refusal looks like.
  *
- *     cc -I include include/example.c target/staticlib/libexports32.a -o example
+ *     bindings/archive
+ *     cc -I include include/example.c target/lib/$(uname -m)/libeddybridge32.a -o example
  *
- * It prints
- *
- *     found=1
- *     missing=2
- *     packet=02 00 00 00 0a 00 00 00 0b 00 00 00 65 00 00 00
- *     refusal=12
+ * It prints what stands in example.out, and `bindings/rust/test` holds it to that.
  */
 #include "eddybridge32.h"
 
@@ -28,7 +24,7 @@ static int missing_codes(void)
     eddy32_sub_assign(sent, WORDS, got, WORDS);
     eddy32_number found = eddy32_decode_with_log(sent, WORDS, log, 3, missing, 3);
 
-    if (found.refusal != 0)
+    if (found.refusal != EDDY32_OK)
         return 1;
     printf("found=%zu\n", found.value);
     for (size_t i = 0; i < found.value; i++)
@@ -39,21 +35,21 @@ static int missing_codes(void)
 static int packet(void)
 {
     enum { T = 2, WORDS = EDDY32_WORDS(T) };
-    uint32_t s[WORDS], again[EDDY32_MOST_WORDS];
-    uint8_t buf[8 + 4 * T];
+    uint32_t s[WORDS], again[EDDY32_MAX_WORDS];
+    uint8_t buf[EDDY32_PACKET_BYTES(T)];
 
     eddy32_new(T, s, WORDS);
     eddy32_insert(s, WORDS, 1);
     eddy32_insert(s, WORDS, 10);
     eddy32_number written = eddy32_serialize(s, WORDS, buf, sizeof buf);
-    if (written.refusal != 0)
+    if (written.refusal != EDDY32_OK)
         return 1;
     printf("packet=");
     for (size_t i = 0; i < written.value; i++)
         printf("%02x%s", (unsigned)buf[i], i + 1 < written.value ? " " : "\n");
 
-    /* Whoever reads a packet need not know its threshold: the most words have room for it. It is the same sketch, word for word. */
-    if (eddy32_deserialize(buf, written.value, again, EDDY32_MOST_WORDS) != 0)
+    /* Whoever reads a packet need not know its threshold: EDDY32_MAX_WORDS words have room for it. It is the same sketch, word for word. */
+    if (eddy32_deserialize(buf, written.value, again, EDDY32_MAX_WORDS) != EDDY32_OK)
         return 1;
     for (size_t i = 0; i < WORDS; i++)
         if (again[i] != s[i])

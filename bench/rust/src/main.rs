@@ -73,7 +73,7 @@ fn mixed(numbers: impl IntoIterator<Item = u32>) -> u64 {
 fn rust_sum(sketch: &PowerSumQuackU32) -> u64 {
     let mut copy = sketch.clone();
     copy.insert(0);
-    let mut packet = vec![0u8; 8 + 4 * sketch.threshold()];
+    let mut packet = vec![0u8; ours::packet_bytes(sketch.threshold())];
     copy.serialize(&mut packet);
     let sums = packet[8..].chunks(4).map(|b| u32::from_le_bytes(b.try_into().unwrap()));
     mixed(std::iter::once(sketch.count()).chain(sums))
@@ -231,7 +231,8 @@ fn decode(n: usize, seed: u64) -> Work {
 fn write(threshold: usize, seed: u64) -> Work {
     let list = codes(seed, 100);
     let (sketch, words) = (rust_sketch(threshold, &list), our_sketch(threshold, &list));
-    let (mut packet, mut same) = (vec![0u8; 8 + 4 * threshold], vec![0u8; 8 + 4 * threshold]);
+    let mut packet = vec![0u8; ours::packet_bytes(threshold)];
+    let mut same = packet.clone();
     Work {
         name: format!("write, T {threshold}"),
         calls: CALLS,
@@ -251,7 +252,7 @@ fn write(threshold: usize, seed: u64) -> Work {
 }
 
 fn read(threshold: usize, seed: u64) -> Work {
-    let mut packet = vec![0u8; 8 + 4 * threshold];
+    let mut packet = vec![0u8; ours::packet_bytes(threshold)];
     rust_sketch(threshold, &codes(seed, 100)).serialize(&mut packet);
     let same = packet.clone();
     Work {

@@ -1,7 +1,11 @@
 //! The sketch.
-use crate::boundary::{self, Words, COUNT, GREATEST, HAS_LAST, LAST, MOST_WORDS, SUMS, THRESHOLD};
+#[cfg(feature = "alloc")]
+use crate::field::Residue;
 use crate::refusal::Refusal;
-use std::fmt;
+#[cfg(feature = "alloc")]
+use alloc::{vec, vec::Vec};
+use core::fmt;
+use eddybridge_sys::{self as sys, COUNT, HAS_LAST, LAST, MAX_WORDS, SUMS, THRESHOLD};
 
 /// A sketch of a multiset of 32-bit values: as many sums of powers as its threshold, a count, and the last value
 /// inserted, where it is known.
@@ -15,8 +19,8 @@ use std::fmt;
 ///
 /// # fn main() -> Result<(), eddybridge::Refusal> {
 /// let mut sketch = PowerSumQuackU32::new(3)?;
-/// sketch.insert(10)?;
-/// sketch.insert(12)?;
+/// sketch.insert(10);
+/// sketch.insert(12);
 /// assert_eq!(sketch.decode_with_log(&[1, 2, 10, 12, 10])?, [10, 12, 10]);
 /// # Ok(())
 /// # }
@@ -25,17 +29,17 @@ use std::fmt;
 pub struct PowerSumQuackU32 {
     /// The words of the sketch, and zeros behind them: every sketch begins as [`Self::BLANK`], and no call writes there.
     /// So two sketches are equal where all their words are.
-    words: Words,
+    words: [u32; MAX_WORDS],
 }
 
 impl PowerSumQuackU32 {
-    const BLANK: Self = Self { words: [0; MOST_WORDS] };
+    const BLANK: Self = Self { words: [0; MAX_WORDS] };
 
     /// Makes an empty sketch that can decode up to `threshold` values.
     ///
     /// # Errors
     ///
-    /// [`Refusal::ThresholdOutOfRange`] where `threshold` is 0 or above 32.
+    /// [`Refusal::ThresholdOutOfRange`] where `threshold` is 0 or above [`MAX_THRESHOLD`](crate::MAX_THRESHOLD).
     ///
     /// # Examples
     ///
@@ -53,16 +57,12 @@ impl PowerSumQuackU32 {
     /// ```
     pub fn new(threshold: usize) -> Result<Self, Refusal> {
         let mut made = Self::BLANK;
-        boundary::new(threshold, &mut made.words)?;
+        Refusal::unless(sys::new(threshold, &mut made.words), ())?;
         Ok(made)
     }
 
     /// Inserts `value`. The count grows by 1 modulo 2^32, and the last value becomes the residue of `value`.
     ///
-    /// # Errors
-    ///
-    /// None is given for a sketch of this type.
-    ///
     /// # Examples
     ///
     /// ```
@@ -70,23 +70,19 @@ impl PowerSumQuackU32 {
     ///
     /// # fn main() -> Result<(), eddybridge::Refusal> {
     /// let mut sketch = PowerSumQuackU32::new(2)?;
-    /// sketch.insert(7)?;
-    /// sketch.insert(4294967295)?;
+    /// sketch.insert(7);
+    /// sketch.insert(4294967295);
     /// assert_eq!(sketch.count(), 2);
     /// assert_eq!(sketch.last_value(), Some(4));
     /// # Ok(())
     /// # }
     /// ```
-    pub fn insert(&mut self, value: u32) -> Result<(), Refusal> {
-        boundary::insert(&mut self.words, value)
+    pub fn insert(&mut self, value: u32) {
+        Refusal::none(sys::insert(&mut self.words, value));
     }
 
     /// Removes `value`, whether or not it was inserted. The count falls by 1 modulo 2^32. The last value becomes
     /// unknown where it equals `value` as given, unreduced.
-    ///
-    /// # Errors
-    ///
-    /// None is given for a sketch of this type.
     ///
     /// # Examples
     ///
@@ -95,18 +91,18 @@ impl PowerSumQuackU32 {
     ///
     /// # fn main() -> Result<(), eddybridge::Refusal> {
     /// let mut sketch = PowerSumQuackU32::new(2)?;
-    /// sketch.insert(7)?;
-    /// sketch.insert(9)?;
-    /// sketch.remove(7)?;
+    /// sketch.insert(7);
+    /// sketch.insert(9);
+    /// sketch.remove(7);
     /// assert_eq!(sketch.last_value(), Some(9));
-    /// sketch.remove(9)?;
+    /// sketch.remove(9);
     /// assert_eq!(sketch.last_value(), None);
     /// assert_eq!(sketch.count(), 0);
     /// # Ok(())
     /// # }
     /// ```
-    pub fn remove(&mut self, value: u32) -> Result<(), Refusal> {
-        boundary::remove(&mut self.words, value)
+    pub fn remove(&mut self, value: u32) {
+        Refusal::none(sys::remove(&mut self.words, value));
     }
 
     /// Subtracts `rhs` from this sketch. The last value becomes unknown.
@@ -127,9 +123,9 @@ impl PowerSumQuackU32 {
     /// let mut sent = PowerSumQuackU32::new(4)?;
     /// let mut received = PowerSumQuackU32::new(4)?;
     /// for value in [30, 31, 32] {
-    ///     sent.insert(value)?;
+    ///     sent.insert(value);
     /// }
-    /// received.insert(31)?;
+    /// received.insert(31);
     /// sent.sub_assign(&received)?;
     /// assert_eq!(sent.decode_with_log(&[30, 31, 32])?, [30, 32]);
     ///
@@ -139,14 +135,10 @@ impl PowerSumQuackU32 {
     /// # }
     /// ```
     pub fn sub_assign(&mut self, rhs: &Self) -> Result<(), Refusal> {
-        boundary::sub_assign(&mut self.words, &rhs.words)
+        Refusal::unless(sys::sub_assign(&mut self.words, &rhs.words), ())
     }
 
     /// The difference of this sketch and `rhs`, with the smaller of the two thresholds and no last value.
-    ///
-    /// # Errors
-    ///
-    /// None is given for sketches of this type.
     ///
     /// # Examples
     ///
@@ -155,22 +147,22 @@ impl PowerSumQuackU32 {
     ///
     /// # fn main() -> Result<(), eddybridge::Refusal> {
     /// let mut sent = PowerSumQuackU32::new(8)?;
-    /// sent.insert(5)?;
+    /// sent.insert(5);
     /// let received = PowerSumQuackU32::new(2)?;
-    /// let missing = sent.sub(&received)?;
+    /// let missing = sent.sub(&received);
     /// assert_eq!(missing.threshold(), 2);
     /// assert_eq!(missing.decode_with_log(&[4, 5])?, [5]);
     /// # Ok(())
     /// # }
     /// ```
-    pub fn sub(&self, rhs: &Self) -> Result<Self, Refusal> {
+    pub fn sub(&self, rhs: &Self) -> Self {
         let mut difference = Self::BLANK;
-        boundary::sub(&self.words, &rhs.words, &mut difference.words)?;
-        Ok(difference)
+        Refusal::none(sys::sub(&self.words, &rhs.words, &mut difference.words));
+        difference
     }
 
     /// The coefficients a1 to an, n being the count, of the polynomial whose roots are the values, x^n + a1·x^(n-1) +
-    /// ... + an. They are residues.
+    /// ... + an.
     ///
     /// # Errors
     ///
@@ -179,27 +171,26 @@ impl PowerSumQuackU32 {
     /// # Examples
     ///
     /// ```
-    /// use eddybridge::{field, PowerSumQuackU32};
+    /// use eddybridge::{field::Residue, PowerSumQuackU32};
     ///
     /// # fn main() -> Result<(), eddybridge::Refusal> {
     /// let mut sketch = PowerSumQuackU32::new(3)?;
-    /// sketch.insert(10)?;
-    /// sketch.insert(12)?;
-    /// assert_eq!(sketch.to_coeffs()?, [field::neg(22), 120]); // x^2 - 22x + 120
+    /// sketch.insert(10);
+    /// sketch.insert(12);
+    /// assert_eq!(sketch.to_coeffs()?, [-Residue::new(22), Residue::new(120)]); // x^2 - 22x + 120
     /// # Ok(())
     /// # }
     /// ```
-    pub fn to_coeffs(&self) -> Result<Vec<u32>, Refusal> {
-        let mut coeffs = [0; GREATEST];
-        let n = boundary::to_coeffs(&self.words, &mut coeffs)?;
-        Ok(coeffs[..n].to_vec())
+    #[cfg(feature = "alloc")]
+    pub fn to_coeffs(&self) -> Result<Vec<Residue>, Refusal> {
+        let mut coeffs = [0; sys::MAX_THRESHOLD];
+        let answer = sys::to_coeffs(&self.words, &mut coeffs);
+        let n = Refusal::unless(answer.refusal, answer.value)?;
+        Ok(coeffs[..n].iter().map(|&coeff| Residue::answered(coeff)).collect())
     }
 
-    /// The entries of `log` that are roots of the polynomial of [`to_coeffs`](Self::to_coeffs), as they stand in the
-    /// log, in its order. At count 0 the list is empty.
-    ///
-    /// As long as no value has come out more often than it went in, these are the entries that are in the sketch, and
-    /// no others. An entry is listed as often as it stands in the log, however often it is in the sketch.
+    /// The entries of `log` that are in the sketch, in the log's order: a vector of what
+    /// [`decode_into`](Self::decode_into) writes, which says when the list is exact.
     ///
     /// # Errors
     ///
@@ -212,22 +203,56 @@ impl PowerSumQuackU32 {
     ///
     /// # fn main() -> Result<(), Refusal> {
     /// let mut sketch = PowerSumQuackU32::new(1)?;
-    /// sketch.insert(10)?;
+    /// sketch.insert(10);
     /// assert_eq!(sketch.decode_with_log(&[10, 11, 10])?, [10, 10]);
-    /// sketch.insert(11)?;
+    /// sketch.insert(11);
     /// assert_eq!(sketch.decode_with_log(&[10, 11, 10]), Err(Refusal::CountAboveThreshold));
     /// # Ok(())
     /// # }
     /// ```
+    #[cfg(feature = "alloc")]
     pub fn decode_with_log(&self, log: &[u32]) -> Result<Vec<u32>, Refusal> {
         let mut found = vec![0; log.len()];
-        let n = boundary::decode_with_log(&self.words, log, &mut found)?;
+        let n = self.decode_into(log, &mut found)?;
         found.truncate(n);
         Ok(found)
     }
 
-    /// Writes the sketch as a packet to the front of `buf`, and answers its length, 8 + 4·threshold. Bytes beyond it
-    /// stay.
+    /// Writes the entries of `log` that are in the sketch, as they stand in the log, in its order, to the front of `out`,
+    /// and answers how many: those that are roots of the polynomial of the sums, and none at count 0. Places beyond them
+    /// stay. `out` needs as many places as the log has entries, whatever is found.
+    ///
+    /// The list is exact as long as each residue was taken out at most as often as it was put in, and at most as many
+    /// as the threshold are left in all, repeats counted. Then it has the entries whose residue is left, and no others.
+    /// An entry is listed as often as it stands in the log, however often it is in the sketch. Where a residue was
+    /// taken out more often than it was put in, no sketch can tell, and what is listed means nothing.
+    ///
+    /// # Errors
+    ///
+    /// - [`Refusal::CountAboveThreshold`] where the count is above the threshold;
+    /// - [`Refusal::BufferTooShort`] where `out` is shorter than `log`.
+    ///
+    /// # Examples
+    ///
+    /// ```
+    /// use eddybridge::PowerSumQuackU32;
+    ///
+    /// # fn main() -> Result<(), eddybridge::Refusal> {
+    /// let mut sketch = PowerSumQuackU32::new(1)?;
+    /// sketch.insert(10);
+    /// let mut out = [0; 3];
+    /// let n = sketch.decode_into(&[10, 11, 10], &mut out)?;
+    /// assert_eq!(out[..n], [10, 10]);
+    /// # Ok(())
+    /// # }
+    /// ```
+    pub fn decode_into(&self, log: &[u32], out: &mut [u32]) -> Result<usize, Refusal> {
+        let answer = sys::decode_with_log(&self.words, log, out);
+        Refusal::unless(answer.refusal, answer.value)
+    }
+
+    /// Writes the sketch as a packet to the front of `buf`, and answers its length, the [`packet_len`](crate::packet_len)
+    /// of the threshold. Bytes beyond it stay.
     ///
     /// The packet is little-endian on every machine: the count, the last value, and the sums, four bytes each.
     ///
@@ -239,20 +264,21 @@ impl PowerSumQuackU32 {
     /// # Examples
     ///
     /// ```
-    /// use eddybridge::PowerSumQuackU32;
+    /// use eddybridge::{PowerSumQuackU32, MAX_PACKET_LEN};
     ///
     /// # fn main() -> Result<(), eddybridge::Refusal> {
     /// let mut sketch = PowerSumQuackU32::new(2)?;
-    /// sketch.insert(1)?;
-    /// sketch.insert(10)?;
-    /// let mut buf = [0; 1500];
+    /// sketch.insert(1);
+    /// sketch.insert(10);
+    /// let mut buf = [0; MAX_PACKET_LEN];
     /// let length = sketch.serialize(&mut buf)?;
     /// assert_eq!(buf[..length], [2, 0, 0, 0, 10, 0, 0, 0, 11, 0, 0, 0, 101, 0, 0, 0]);
     /// # Ok(())
     /// # }
     /// ```
     pub fn serialize(&self, buf: &mut [u8]) -> Result<usize, Refusal> {
-        boundary::serialize(&self.words, buf)
+        let answer = sys::serialize(&self.words, buf);
+        Refusal::unless(answer.refusal, answer.value)
     }
 
     /// Writes the sketch as [`serialize`](Self::serialize) does, with the first `num_missing` sums where these are
@@ -269,7 +295,7 @@ impl PowerSumQuackU32 {
     ///
     /// # fn main() -> Result<(), eddybridge::Refusal> {
     /// let mut sketch = PowerSumQuackU32::new(2)?;
-    /// sketch.insert(10)?;
+    /// sketch.insert(10);
     /// let mut buf = [0; 16];
     /// assert_eq!(sketch.serialize_with_hint(&mut buf, 0)?, 8);
     /// assert_eq!(sketch.serialize_with_hint(&mut buf, 1)?, 12);
@@ -278,7 +304,8 @@ impl PowerSumQuackU32 {
     /// # }
     /// ```
     pub fn serialize_with_hint(&self, buf: &mut [u8], num_missing: usize) -> Result<usize, Refusal> {
-        boundary::serialize_with_hint(&self.words, buf, num_missing)
+        let answer = sys::serialize_with_hint(&self.words, buf, num_missing);
+        Refusal::unless(answer.refusal, answer.value)
     }
 
     /// Reads a packet. The threshold is the number of sums in `buf`, so `buf` has to end where the packet does; up to
@@ -287,7 +314,7 @@ impl PowerSumQuackU32 {
     /// # Errors
     ///
     /// - [`Refusal::PacketTooShort`] where `buf` has fewer than 8 bytes;
-    /// - [`Refusal::SumsOutOfRange`] where it has no sum, or more than 32;
+    /// - [`Refusal::SumsOutOfRange`] where it has no sum, or more than [`MAX_THRESHOLD`](crate::MAX_THRESHOLD);
     /// - [`Refusal::NotReduced`] where a sum is [`MODULUS`](crate::field::MODULUS) or more.
     ///
     /// # Examples
@@ -297,7 +324,7 @@ impl PowerSumQuackU32 {
     ///
     /// # fn main() -> Result<(), Refusal> {
     /// let mut sketch = PowerSumQuackU32::new(2)?;
-    /// sketch.insert(10)?;
+    /// sketch.insert(10);
     /// let mut buf = [0; 16];
     /// let length = sketch.serialize(&mut buf)?;
     /// assert_eq!(PowerSumQuackU32::deserialize(&buf[..length])?, sketch);
@@ -307,7 +334,7 @@ impl PowerSumQuackU32 {
     /// ```
     pub fn deserialize(buf: &[u8]) -> Result<Self, Refusal> {
         let mut read = Self::BLANK;
-        boundary::deserialize(buf, &mut read.words)?;
+        Refusal::unless(sys::deserialize(buf, &mut read.words), ())?;
         Ok(read)
     }
 
@@ -332,7 +359,7 @@ impl PowerSumQuackU32 {
     /// ```
     /// # fn main() -> Result<(), eddybridge::Refusal> {
     /// let mut sketch = eddybridge::PowerSumQuackU32::new(1)?;
-    /// sketch.remove(1)?;
+    /// sketch.remove(1);
     /// assert_eq!(sketch.count(), 4294967295);
     /// # Ok(())
     /// # }
@@ -349,7 +376,7 @@ impl PowerSumQuackU32 {
     /// # fn main() -> Result<(), eddybridge::Refusal> {
     /// let mut sketch = eddybridge::PowerSumQuackU32::new(1)?;
     /// assert_eq!(sketch.last_value(), None);
-    /// sketch.insert(3)?;
+    /// sketch.insert(3);
     /// assert_eq!(sketch.last_value(), Some(3));
     /// # Ok(())
     /// # }

@@ -1,6 +1,7 @@
 //! Why a call refuses.
-use std::error::Error;
-use std::fmt;
+use core::error::Error;
+use core::fmt;
+use eddybridge_sys as sys;
 
 /// Why a call refuses what it was given. A refused call changes nothing.
 ///
@@ -22,31 +23,30 @@ use std::fmt;
 #[repr(u32)]
 pub enum Refusal {
     /// 1: a sketch is to be made with a threshold of 0 or above 32.
-    ThresholdOutOfRange = 1,
+    ThresholdOutOfRange = sys::THRESHOLD_OUT_OF_RANGE,
     /// 2: the thresholds of a subtraction in place differ.
-    ThresholdsDiffer = 2,
+    ThresholdsDiffer = sys::THRESHOLDS_DIFFER,
     /// 3: a sketch without a last value is to be written.
-    NoLastValue = 3,
+    NoLastValue = sys::NO_LAST_CODE,
     /// 4: coefficients or a decoding are asked of a sketch whose count is above its threshold.
-    CountAboveThreshold = 4,
-    /// 5: the buffer to write into is shorter than what is to be written. For coefficients, decodings and sketches this
-    /// crate lends a long enough buffer of its own.
-    BufferTooShort = 5,
+    CountAboveThreshold = sys::COUNT_ABOVE_THRESHOLD,
+    /// 5: the buffer to write into is shorter than the packet, or than the log of a decoding.
+    BufferTooShort = sys::BUFFER_TOO_SHORT,
     /// 6: the packet to read has fewer than 8 bytes.
-    PacketTooShort = 6,
+    PacketTooShort = sys::PACKET_TOO_SHORT,
     /// 7: the packet to read has no sum, or more than 32.
-    SumsOutOfRange = 7,
-    /// 8: a sum of the packet to read, or a coefficient given to [`eval`](crate::eval), is the modulus or more.
-    NotReduced = 8,
+    SumsOutOfRange = sys::SUMS_OUT_OF_RANGE,
+    /// 8: a sum of the packet to read is the modulus or more.
+    NotReduced = sys::NOT_REDUCED,
     /// 9: an input line of the desk program is not as prescribed. No call of this crate gives it.
     BadLine = 9,
     /// 10: the log of the desk program has an 8,193rd line. No call of this crate gives it.
     LogTooLong = 10,
     /// 11: a polynomial without coefficients is to be evaluated.
-    NoCoefficient = 11,
+    NoCoefficient = sys::NO_COEFFICIENT,
     /// 12: a sketch is not well formed. Every [`PowerSumQuackU32`](crate::PowerSumQuackU32) is, so no call of this
     /// crate gives it.
-    NotWellFormed = 12,
+    NotWellFormed = sys::NOT_WELL_FORMED,
 }
 
 impl Refusal {
@@ -64,6 +64,28 @@ impl Refusal {
         Self::NoCoefficient,
         Self::NotWellFormed,
     ];
+
+    /// What a call gives, unless the number that it answers is a refusal's.
+    ///
+    /// # Panics
+    ///
+    /// On a number that is no refusal's: the archive that was linked is then not of this version.
+    pub(crate) fn unless<T>(number: u32, given: T) -> Result<T, Self> {
+        if number == sys::OK {
+            return Ok(given);
+        }
+        Err(Self::from_number(number)
+            .unwrap_or_else(|| panic!("libeddybridge32.a answers {number}, which is no refusal")))
+    }
+
+    /// Passes over the number that a call answers which refuses no well-formed sketch.
+    ///
+    /// # Panics
+    ///
+    /// On any other number than 0: the archive that was linked is then not of this version.
+    pub(crate) fn none(number: u32) {
+        assert!(number == sys::OK, "libeddybridge32.a refuses a well-formed sketch by {number}");
+    }
 
     /// The refusal's number.
     ///

@@ -4,7 +4,7 @@
 use crate::op::{Op, LONGEST};
 use crate::oracle::P;
 use crate::rng::Rng;
-use ours::{COUNT, GREATEST, HAS_LAST, LAST, SUMS, THRESHOLD};
+use ours::{COUNT, HAS_LAST, LAST, MAX_THRESHOLD, SUMS, THRESHOLD};
 
 /// The slot of the words that are tried, that of a good sketch of the same threshold, and that of a result.
 const TRIED: usize = 0;
@@ -83,13 +83,13 @@ fn spoilt(words: &[u32], threshold: usize) -> Vec<Vec<u32>> {
 pub fn sweep() -> Vec<Op> {
     let mut rng = Rng::new(1);
     let mut ops = vec![Op::Put { slot: RESULT, words: vec![FILL; LONGEST] }];
-    for threshold in 1..=GREATEST {
+    for threshold in 1..=MAX_THRESHOLD {
         let (good, tried) = (sketch(&mut rng, threshold), sketch(&mut rng, threshold));
         for length in 0..=LONGEST {
             ops.extend(calls(&good, &tried[..length], threshold));
         }
     }
-    for threshold in [1, 2, 20, GREATEST] {
+    for threshold in [1, 2, 20, MAX_THRESHOLD] {
         let (good, tried) = (sketch(&mut rng, threshold), sketch(&mut rng, threshold));
         for length in [ours::words(threshold), ours::words(threshold) + 2] {
             for words in spoilt(&tried[..length], threshold) {

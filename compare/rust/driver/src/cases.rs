@@ -62,7 +62,7 @@ fn sketches() -> Vec<Op> {
 }
 
 fn limits() -> Vec<Op> {
-    let mut ops = vec![slice(0, ours::words(ours::GREATEST))];
+    let mut ops = vec![slice(0, ours::words(ours::MAX_THRESHOLD))];
     ops.extend([7, 8, 11, 140, 12, 139].map(|length| Op::Deserialize { slot: 0, bytes: vec![0; length] }));
     ops.extend([read(0, &[1, 1, P - 1]), read(0, &[1, 1, P])]);
     ops.extend(fresh(0, 32, 1..=32));
@@ -99,7 +99,7 @@ fn in_slice(threshold: usize, length: usize) -> Vec<Op> {
 
 fn slices() -> Vec<Op> {
     let lengths = |threshold| [0, 3, 4, ours::words(threshold) - 1, ours::words(threshold), LONGEST];
-    [1, 3, ours::GREATEST]
+    [1, 3, ours::MAX_THRESHOLD]
         .map(|threshold| lengths(threshold).map(|length| in_slice(threshold, length)).concat())
         .concat()
 }

@@ -12,7 +12,7 @@ use crate::cases;
 use crate::op::{Op, LONGEST};
 use crate::oracle::{Oracle, P};
 use crate::rng::Rng;
-use ours::{COUNT, GREATEST, HAS_LAST, LAST, SUMS, THRESHOLD};
+use ours::{COUNT, HAS_LAST, LAST, MAX_THRESHOLD, SUMS, THRESHOLD};
 use std::collections::VecDeque;
 
 const EDGES: [u32; 16] = [0, 1, 2, 3, 4, 5, P - 2, P - 1, P, P + 1, P + 2, P + 3, P + 4, u32::MAX / 2, 1 << 31, 65535];
@@ -57,7 +57,7 @@ fn word(words: &[u32], at: usize) -> u32 {
 
 /// The packet of words with the first `hint` sums at most, and a last code of its own.
 fn packet_of(words: &[u32], last: u32, hint: usize) -> Vec<u8> {
-    let sums = (word(words, THRESHOLD) as usize).min(GREATEST).min(hint);
+    let sums = (word(words, THRESHOLD) as usize).min(MAX_THRESHOLD).min(hint);
     let numbers = [word(words, COUNT), last];
     numbers.iter().chain(words.iter().skip(SUMS).take(sums)).flat_map(|word| word.to_le_bytes()).collect()
 }
@@ -134,7 +134,7 @@ impl Generator {
         } else if self.rng.percent(20) {
             self.rng.pick(&[1, 2, 3, 20, 21, 31, 32])
         } else {
-            self.rng.range(1, GREATEST)
+            self.rng.range(1, MAX_THRESHOLD)
         }
     }
 
@@ -202,7 +202,7 @@ impl Generator {
             0..=15 => need,
             16..=21 => need + 1,
             22..=29 => self.rng.range(need, LONGEST),
-            30..=33 => ours::words(GREATEST),
+            30..=33 => ours::words(MAX_THRESHOLD),
             34..=37 => LONGEST,
             38 => need - 1,
             _ => self.rng.below(need),
@@ -245,13 +245,13 @@ impl Generator {
     /// A packet: that of a slot or one of its own, whole, cut, longer, with a damaged byte, or any bytes.
     fn packet(&mut self, state: &Oracle) -> Vec<u8> {
         if self.rng.percent(10) {
-            let length = self.rng.below(4 * GREATEST + 20);
+            let length = self.rng.below(4 * MAX_THRESHOLD + 20);
             return (0..length).map(|_| self.rng.next() as u8).collect();
         }
         let slot = self.slot();
         let words = if self.rng.percent(60) { state.words(slot).to_vec() } else { self.words() };
         let last = if self.rng.percent(20) { self.number() } else { word(&words, LAST) };
-        let mut bytes = packet_of(&words, last, GREATEST);
+        let mut bytes = packet_of(&words, last, MAX_THRESHOLD);
         self.damage(&mut bytes);
         bytes
     }
@@ -280,7 +280,7 @@ impl Generator {
     fn any(&mut self, state: &Oracle) -> Op {
         let slot = self.slot();
         let words = state.words(slot);
-        let threshold = (word(words, THRESHOLD) as usize).min(GREATEST);
+        let threshold = (word(words, THRESHOLD) as usize).min(MAX_THRESHOLD);
         let count = (word(words, COUNT) as usize).min(threshold);
         match self.rng.below(100) {
             0..=27 => Op::Insert { slot, code: self.code() },

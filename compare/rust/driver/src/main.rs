@@ -74,7 +74,7 @@ impl Tally {
                 .collect();
             let refused =
                 if refusals.is_empty() { String::new() } else { format!("   refused by {}", refusals.join(", ")) };
-            println!("  {name:20}{:>10}{refused}", self.made[kind]);
+            println!("  {name:26}{:>10}{refused}", self.made[kind]);
         }
         println!(
             "  insertions at {} thresholds; {} decodings that list something, at {} counts",

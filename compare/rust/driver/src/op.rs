@@ -14,7 +14,7 @@
 use std::fmt::Write;
 
 /// The most words of a slot: more than the greatest sketch has.
-pub const LONGEST: usize = ours::words(ours::GREATEST) + 4;
+pub const LONGEST: usize = ours::words(ours::MAX_THRESHOLD) + 4;
 
 #[derive(Clone, Debug)]
 pub enum Op {
@@ -77,14 +77,14 @@ pub const KINDS: [&str; 21] = [
     "serialize",
     "serialize_with_hint",
     "deserialize",
-    "reduce",
-    "add",
+    "field_reduce",
+    "field_add",
     "field_sub",
-    "mul",
-    "neg",
-    "inv",
-    "pow",
-    "pow_multiplications",
+    "field_mul",
+    "field_neg",
+    "field_inv",
+    "field_pow",
+    "field_pow_multiplications",
 ];
 
 /// Whether the first answer of a kind is a refusal.

@@ -1,7 +1,7 @@
 //! The verified side: each operation through the C boundary, on memory with guards around everything that is lent.
 
 use crate::op::Op;
-use ours::{Evaluated, Number, Powered};
+use ours::{Number, Power, Value};
 
 /// Places before and after each slot and each buffer that no call may touch.
 const GUARD: usize = 5;
@@ -122,20 +122,20 @@ impl Verified {
         let one = |number: u32| vec![number as u64];
         match *op {
             Op::Eval { x, ref coeffs } => {
-                let Evaluated { refusal, value } = ours::eval(coeffs, x);
+                let Value { refusal, value } = ours::eval(coeffs, x);
                 vec![refusal as u64, value as u64]
             }
-            Op::Reduce(a) => one(ours::reduce(a)),
-            Op::Add(a, b) => one(ours::add(a, b)),
+            Op::Reduce(a) => one(ours::field_reduce(a)),
+            Op::Add(a, b) => one(ours::field_add(a, b)),
             Op::FieldSub(a, b) => one(ours::field_sub(a, b)),
-            Op::Mul(a, b) => one(ours::mul(a, b)),
-            Op::Neg(a) => one(ours::neg(a)),
-            Op::Inv(a) => one(ours::inv(a)),
+            Op::Mul(a, b) => one(ours::field_mul(a, b)),
+            Op::Neg(a) => one(ours::field_neg(a)),
+            Op::Inv(a) => one(ours::field_inv(a)),
             Op::Pow(a, exponent) => {
-                let Powered { value, multiplications } = ours::pow(a, exponent);
+                let Power { value, multiplications } = ours::field_pow(a, exponent);
                 vec![value as u64, multiplications as u64]
             }
-            Op::PowMultiplications(exponent) => one(ours::pow_multiplications(exponent)),
+            Op::PowMultiplications(exponent) => one(ours::field_pow_multiplications(exponent)),
             _ => unreachable!("an operation on slots"),
         }
     }
