@@ -16,7 +16,8 @@ use Rattle.rules.specs.Sketch.{Sketch, nothing, each, fresh, insert, subtract}
 use Rattle.rules.specs.Decode as decoding
 use Rattle.rules.specs.Decode.{newestFirst, coefficients, evaluate}
 use Rattle.rules.specs.Calls as calls
-use Rattle.desk_rules.specs.Lines.{bytesOf, LF, Cut, inFront, cut, greatestNumber, isDigit, allDigits, decimalValue, wellBegun, Number, some, none, number}
+use Rattle.desk_rules.specs.Lines.{bytesOf, LF, Cut, inFront, cut, greatestNumber, isDigit, allDigits, decimalValue, wellBegun, Number, some, none}
+use Rattle.desk_rules.specs.Lines.{number}
 use Rattle.desk_rules.specs.Lines.{log, keyed, parsed}
 use Rattle.desk_rules.specs.Desk.{mostLines, Seen, unbegun, logs, stopped, next, allLines, closed, readLines, decided, outcome}
 use Rattle.desk_rules.specs.Text.{decimalWithin, decimal, line, lines, printed, deskAnswer}

@@ -19,7 +19,8 @@ use Rattle.rules.specs.Calls as calls
 use Rattle.rules.specs.Calls.{Outcome, refused, given, unless}
 use Rattle.desk_rules.specs.Lines.{Line, threshold, log, got, bad, some, none, wellBegun, allDigits, decimalValue, greatestNumber, number, valued, keyed}
 use Rattle.desk_rules.specs.Lines.{orElse, thresholdWord, logWord, gotWord, parsed, cut}
-use Rattle.desk_rules.specs.Desk.{mostLines, Seen, unbegun, logs, gots, stopped, next, allLines, closed, readLines, sketchOfCodes, Report, reported, decided}
+use Rattle.desk_rules.specs.Desk.{mostLines, Seen, unbegun, logs, gots, stopped, next, allLines, closed, readLines, sketchOfCodes, Report, reported}
+use Rattle.desk_rules.specs.Desk.{decided}
 use Rattle.desk_rules.specs.Desk.{outcome}
 use Rattle.desk_rules.specs.Text.{refusalWord, countWord, foundWord, missingWord, printed, deskAnswer}
 use Rattle.rules.proofs.Each.{and-second}

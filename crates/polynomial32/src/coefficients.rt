@@ -13,7 +13,8 @@ use modint32::precompute;
 fn newton_sum(sums: &[u32], coeffs: &[u32]) -> u32
     requires { ⌜ length (now coeffs) ≤ length (now sums) ⌝ }
     ensures { λ r. ⌜ r
-        ≡ sumTo (λ (j : ℕ). getD (now (sums .entry)) j 0 * getD (now (coeffs .entry)) (length (now (coeffs .entry)) - j - 1) 0) (length (now (coeffs .entry))) % kind32 .modulus ⌝ }
+        ≡ sumTo (λ (j : ℕ). getD (now (sums .entry)) j 0 * getD (now (coeffs .entry)) (length (now (coeffs .entry)) - j - 1) 0)
+        (length (now (coeffs .entry))) % kind32 .modulus ⌝ }
 {
     let i = coeffs.len();
     let mut sum = 0;

@@ -65,7 +65,8 @@ ran κs =
     (carriedByHint 2 sent
     (inserted (code 9)
     (subtractedInPlace
-    (inserted (code 13) (inserted (code 11) (inserted (code 7) (inserted (code 5) (removed (code 5) (made 3 refl) (inl refl)) (inr (refl, refl))) (inl refl)) (inl refl))
+    (inserted (code 13) (inserted (code 11) (inserted (code 7)
+    (inserted (code 5) (removed (code 5) (made 3 refl) (inl refl)) (inr (refl, refl))) (inl refl)) (inl refl))
     (inl refl))
     (inserted (code 13) (made 3 refl) (inl refl)) refl) (inl refl)) (lit≤ tt)
     (record { κs = κs; buf = lent (replicate 16 0); buf₁ = lent sent; n = 16; promised = (refl, refl); bytes = refl })

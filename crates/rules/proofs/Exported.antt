@@ -20,7 +20,8 @@ use Rattle.rules.specs.Decode.{coefficients}
 use Rattle.rules.specs.Calls as calls
 use Rattle.rules.specs.Packet.{packet, sumsAt, sumsIn, sketchIn}
 use Rattle.rules.specs.Calls.{Outcome, refused, given, unless, refusalOf, written, fitting, packed, within, readFor, sketchOr, sumsGiven}
-use Rattle.rules.specs.Words.{headWords, wordsFit, saidBy, wordsOf, newIn, insertIn, removeIn, subAssignIn, subIn, coefficientsIn, decodeIn, writeIn, writeWithHintIn, readIn}
+use Rattle.rules.specs.Words.{headWords, wordsFit, saidBy, wordsOf, newIn, insertIn, removeIn, subAssignIn, subIn, coefficientsIn, decodeIn, writeIn}
+use Rattle.rules.specs.Words.{writeWithHintIn, readIn}
 use Rattle.rules.specs.Words.{inWords, intoWords}
 use Rattle.rules.proofs.Newton.{coefficients-over-part}
 use Rattle.rules.proofs.Bytes.{fitting-short, fitting-given, hint-malformed, hint-packed, refused-by, Reads, read-unrefused}

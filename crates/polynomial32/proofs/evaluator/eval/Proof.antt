@@ -31,7 +31,8 @@ returns-3 c =
       c .value .ensures,
       c .before .reduce .ensures,
       evaluate-residue kind32 (a .coeffs .now) (a .x .0),
-      evaluate-given kind32 (a .coeffs .now) (a .x .0) (omega (arith, b .before .if1 .left)) (passed (b .coefficients-fit .ensures) (c .before .before .if2 .left)),
+      evaluate-given kind32 (a .coeffs .now) (a .x .0) (omega (arith, b .before .if1 .left))
+          (passed (b .coefficients-fit .ensures) (c .before .before .if2 .left)),
     )
 
 pub eval-spec : {M : Type 1} → statement M
