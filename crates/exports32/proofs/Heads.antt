@@ -5,30 +5,30 @@ use mathlib.Core.Path.{_≡_, refl, sym, _∙_, ap}
 use mathlib.Core.Bool.{Bool, true, false, not, cond}
 use mathlib.Core.List.{List}
 use native.Mathlib.Omega.{arith}
-use lib.ListN.{length, getD, take, drop}
+use lib.ListN.{length, take, drop}
 use Rattle.rules.specs.Kind.{kind32}
 use Rattle.rules.specs.Sketch.{hasCode, codeOr0, WellFormed}
 use Rattle.rules.specs.Words.{headWords, wordsFit, saidBy}
 use Rattle.rules.proofs.Tests.{passed, failed}
 use Rattle.rules.proofs.Words.{fit-parts}
 use Rattle.exports32.specs.declared.words.Head.{Head}
-use Rattle.exports32.specs.Heads.{headIn, noHead}
+use Rattle.exports32.specs.Heads.{headIn, headParts, noHead}
 
 -- The head of words that fit has the sketch's parts, and as many words stand behind it as the threshold says.
 pub record Heads (ws : List ℕ) (h : Head) : Type 0 where
   pub ok : wordsFit kind32 ws ≡ true
-  pub well : WellFormed kind32 (saidBy ws)
-  pub enough : headWords + h .threshold ≤ length ws
+  pub well : WellFormed kind32 (saidBy kind32 ws)
+  pub enough : headWords kind32 + h .threshold ≤ length ws
   pub most : h .threshold ≤ kind32 .greatest
-  pub sums : take (h .threshold) (drop headWords ws) ≡ saidBy ws .sums
-  pub threshold : h .threshold ≡ saidBy ws .threshold
-  pub count : h .count ≡ saidBy ws .count
-  pub has : h .has ≡ hasCode (saidBy ws .last)
-  pub last : h .last ≡ codeOr0 (saidBy ws .last)
+  pub sums : take (h .threshold) (drop (headWords kind32) ws) ≡ saidBy kind32 ws .sums
+  pub threshold : h .threshold ≡ saidBy kind32 ws .threshold
+  pub count : h .count ≡ saidBy kind32 ws .count
+  pub has : h .has ≡ hasCode (saidBy kind32 ws .last)
+  pub last : h .last ≡ codeOr0 (saidBy kind32 ws .last)
 
 -- The head says whether the words fit, and its parts are the words where they do.
 abbrev headFor : List ℕ → Bool → Head
-headFor ws fit = cond fit (record { fits = true; threshold = getD ws 0 0; count = getD ws 1 0; has = getD ws 2 0; last = getD ws 3 0 }) noHead
+headFor ws fit = cond fit (headParts ws) noHead
 
 fits-told : (ws : List ℕ) (fit : Bool) → headFor ws fit .fits ≡ fit
 fits-told ws true = refl
@@ -51,7 +51,7 @@ module _ (ws : List ℕ) {h : Head} (e : h ≡ headIn ws) where
       let ok = passed told left in
       let fit = fit-parts kind32 ws ok in
       let same : h ≡ headFor ws true = e ∙ ap (headFor ws) ok in
-      let t : h .threshold ≡ saidBy ws .threshold = ap (λ (h : Head). h .threshold) same in
+      let t : h .threshold ≡ saidBy kind32 ws .threshold = ap (λ (h : Head). h .threshold) same in
       record {
         ok = ok;
         well = fit .well;

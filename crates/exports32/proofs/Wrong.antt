@@ -1,7 +1,7 @@
 -- Two wrong answers for each exported call, or a wrong answer and wrong words or bytes left, at one input each: the contract allows neither. And no call that
 -- may refuse is met by refusing that input.
 -- Assumes nothing.
-use Prim.Native.Nat.{ℕ, _+_}
+use Prim.Native.Nat.{ℕ, _+_, _-_, _%_, _^_}
 use mathlib.Core.Path.{refl}
 use mathlib.Core.List.{List, [], _∷_, _++_}
 use lib.ListN.{getD, replicate}
@@ -11,14 +11,15 @@ use Rattle.numbers.specs.Power.{powerMod, powerWithin}
 use Rattle.numbers.specs.Table.{every}
 use Rattle.modint32.specs.Answers.{val, wrap}
 use Rattle.modint32.specs.declared.Powered.{Powered}
-use Rattle.rules.specs.Field.{multiplications}
+use Rattle.rules.specs.Kind.{kind32, bits}
+use Rattle.rules.specs.Field.{residue, multiplications}
 use Rattle.rules.specs.Sketch as sketch
 use Rattle.rules.specs.Sketch.{fresh, each, wellFormed}
-use Rattle.rules.specs.Packet.{bytes, number, allBytes, allNumbers, packet, sketchIn}
+use Rattle.rules.specs.Packet.{bytes, number, allBytes, allNumbers, packet, packetLength, sketchIn}
 use Rattle.rules.specs.Decode as decoding
 use Rattle.rules.specs.Calls as calls
 use Rattle.rules.specs.Words.{saidBy, wordsFit, wordsOf, newIn, insertIn, removeIn, subAssignIn, subIn, coefficientsIn, decodeIn, writeIn, writeWithHintIn}
-use Rattle.rules.specs.Words.{readIn}
+use Rattle.rules.specs.Words.{headWords, hasAt, head, readIn}
 use Rattle.rules.specs.Determines.{holds, RefusesBoth, RefusesAll, MustAnswer}
 use Rattle.rules.proofs.Determined.{lent, both-differ, must-answer, all-differ}
 use Rattle.lent.specs.declared.Number.{Number}
@@ -60,22 +61,22 @@ at k l = getD l k 0
 
 -- The words of a sketch of threshold 3 with 10 and 12 inserted, those of a fresh one, and so many words 9.
 abbrev both : List ℕ
-both = 3 ∷ 2 ∷ 1 ∷ 12 ∷ 22 ∷ 244 ∷ 2728 ∷ []
+both = head kind32 3 2 1 12 ++ 22 ∷ 244 ∷ 2728 ∷ []
 
 abbrev none : List ℕ
-none = 3 ∷ 0 ∷ 0 ∷ 0 ∷ 0 ∷ 0 ∷ 0 ∷ []
+none = head kind32 3 0 0 0 ++ 0 ∷ 0 ∷ 0 ∷ []
 
 abbrev nines : ℕ → List ℕ
 nines n = replicate n 9
 
 -- ---- the field
 
--- The code as it stands, or less the greatest code.
-pub reduce-wrong : RefusesBoth (holds (reduce.Post tt) (4294967292, tt)) 4294967292 4294967295
+-- The code as it stands, or less 2^32.
+pub reduce-wrong : RefusesBoth (holds (reduce.Post tt) (kind32 .modulus + 1, tt)) (kind32 .modulus + 1) 4294967295
 reduce-wrong = both-differ itself _ _ refl refl
 
--- The sum unreduced, or reduced in 32 bits.
-pub add-wrong : RefusesBoth (holds (add.Post tt) (4294967290, (7, tt))) 4294967297 1
+-- The sum unreduced, or in 32 bits.
+pub add-wrong : RefusesBoth (holds (add.Post tt) (4294967290, (20, tt))) (4294967290 + 20) ((4294967290 + 20) % 2 ^ bits kind32)
 add-wrong = both-differ itself _ _ refl refl
 
 -- The difference the other way, or in 32 bits.
@@ -86,8 +87,8 @@ minus-wrong = both-differ itself _ _ refl refl
 pub neg-wrong : RefusesBoth (holds (neg.Post tt) (0, tt)) 4294967291 1
 neg-wrong = both-differ itself _ _ refl refl
 
--- The product in 32 bits, or the sum.
-pub mul-wrong : RefusesBoth (holds (mul.Post tt) (65536, (65536, tt))) 0 131072
+-- The product in 32 bits, or the residue of a factor.
+pub mul-wrong : RefusesBoth (holds (mul.Post tt) (4294967295, (4294967295, tt))) 1 (residue kind32 4294967295)
 mul-wrong = both-differ itself _ _ refl refl
 
 -- 1 for the inverse of 0, or the prime less 1.
@@ -108,11 +109,11 @@ pow-multiplications-wrong = both-differ itself _ _ refl refl
 
 -- ---- a sketch
 
--- Threshold 3 is refused, or the word behind its seven is changed.
+-- Threshold 3 is refused, or the word behind those of the sketch is changed.
 pub new-wrong : (κs : Lfts 1)
-    → RefusesAll itself (λ r s₁. new.Post κs (3, (lent (nines 8), tt)) r (3, (s₁, tt))) 5 (none ++ 0 ∷ [])
+    → RefusesAll itself (λ r s₁. new.Post κs (3, (lent (nines (headWords kind32 + 4)), tt)) r (3, (s₁, tt))) 5 (none ++ 0 ∷ [])
 unfolding newIn calls.make fresh wordsOf
-new-wrong κs = all-differ itself itself (at 7) _ _ refl refl refl
+new-wrong κs = all-differ itself itself (at (headWords kind32 + 3)) _ _ refl refl refl
 
 -- Words of a sketch are said to be none, or 2 is said.
 pub well-formed-wrong : (κs : Lfts 1) (s₁ : RefT (List ℕ)) → RefusesBoth (λ r. well-formed.Post κs (lent both, tt) r (s₁, tt)) 0 2
@@ -127,20 +128,22 @@ insert-wrong κs = all-differ itself itself (at 1) _ _ refl refl refl
 
 -- A removal is refused, or the last code is kept.
 pub remove-wrong : (κs : Lfts 1)
-    → RefusesAll itself (λ r s₁. remove.Post κs (lent both, (12, tt)) r (s₁, (12, tt))) 12 (3 ∷ 1 ∷ 1 ∷ 12 ∷ 10 ∷ 100 ∷ 1000 ∷ [])
+    → RefusesAll itself (λ r s₁. remove.Post κs (lent both, (12, tt)) r (s₁, (12, tt))) 12
+    (head kind32 3 1 1 12 ++ 10 ∷ 100 ∷ 1000 ∷ [])
 unfolding fresh each every wellFormed saidBy wordsFit wordsOf removeIn calls.remove sketch.remove
-remove-wrong κs = all-differ itself itself (at 2) _ _ refl refl refl
+remove-wrong κs = all-differ itself itself (at (hasAt kind32)) _ _ refl refl refl
 
 -- Equal thresholds are refused, or the last code is kept.
 pub sub-assign-wrong : (κs : Lfts 2) (s′ : RefT (List ℕ))
     → RefusesAll itself (λ r s₁. sub-assign.Post κs (lent both, (lent none, tt)) r (s₁, (s′, tt))) 2 both
 unfolding fresh each every wellFormed saidBy wordsFit wordsOf subAssignIn calls.subAssign sketch.subtract
-sub-assign-wrong κs s′ = all-differ itself itself (at 2) _ _ refl refl refl
+sub-assign-wrong κs s′ = all-differ itself itself (at (hasAt kind32)) _ _ refl refl refl
 
 -- Thresholds that differ are refused, or the greater is kept.
 pub sub-wrong : (κs : Lfts 3) (s′ o′ : RefT (List ℕ))
-    → RefusesAll itself (λ r s₁. sub.Post κs (lent both, (lent (2 ∷ 0 ∷ 0 ∷ 0 ∷ 0 ∷ 0 ∷ []), (lent (nines 8), tt))) r (s′, (o′, (s₁, tt)))) 2
-    (3 ∷ 2 ∷ 0 ∷ 0 ∷ 22 ∷ 244 ∷ 2728 ∷ 9 ∷ [])
+    → RefusesAll itself (λ r s₁. sub.Post κs (lent both, (lent (head kind32 2 0 0 0 ++ 0 ∷ 0 ∷ []), (lent (nines (headWords kind32 + 4)), tt))) r
+    (s′, (o′, (s₁, tt)))) 2
+    (head kind32 3 2 0 0 ++ 22 ∷ 244 ∷ 2728 ∷ 9 ∷ [])
 unfolding fresh each every wellFormed saidBy wordsFit wordsOf subIn calls.sub sketch.subtract
 sub-wrong κs s′ o′ = all-differ itself itself (at 0) _ _ refl refl refl
 
@@ -176,18 +179,22 @@ decode-with-log-wrong κs s′ o′ = all-differ refused many (at 0) _ _ refl re
 
 -- One byte too few is counted, or the count's highest byte comes first.
 pub serialize-wrong : (κs : Lfts 2) (s′ : RefT (List ℕ))
-    → RefusesAll refused (λ r s₁. serialize.Post κs (lent both, (lent (nines 20), tt)) r (s′, (s₁, tt))) (counted 19) (0 ∷ 0 ∷ 0 ∷ 2 ∷ nines 16)
+    → RefusesAll refused (λ r s₁. serialize.Post κs (lent both, (lent (nines (packetLength kind32 3)), tt)) r (s′, (s₁, tt)))
+    (counted (packetLength kind32 3 - 1)) (0 ∷ 0 ∷ 0 ∷ 2 ∷ nines (packetLength kind32 3 - 4))
 unfolding fresh each every wellFormed saidBy wordsFit wordsOf writeIn calls.write packet bytes allBytes
 serialize-wrong κs s′ = all-differ refused many (at 0) _ _ refl refl refl
 
 -- Every sum is written in spite of the hint, or the hint is the count.
 pub serialize-with-hint-wrong : (κs : Lfts 2) (s′ : RefT (List ℕ))
-    → RefusesAll refused (λ r s₁. serialize-with-hint.Post κs (lent both, (lent (nines 20), (1, tt))) r (s′, (s₁, (1, tt)))) (counted 20) (1 ∷ nines 19)
+    → RefusesAll refused (λ r s₁. serialize-with-hint.Post κs (lent both, (lent (nines (packetLength kind32 3)), (1, tt))) r (s′, (s₁, (1, tt))))
+    (counted (packetLength kind32 3)) (1 ∷ nines (packetLength kind32 3 - 1))
 unfolding fresh each every wellFormed saidBy wordsFit wordsOf writeWithHintIn calls.writeWithHint packet bytes allBytes
 serialize-with-hint-wrong κs s′ = all-differ refused many (at 0) _ _ refl refl refl
 
--- Twelve bytes are refused, or the count is forgotten.
+-- The bytes of one sum are refused, or the count is forgotten.
 pub deserialize-wrong : (κs : Lfts 2) (s′ : RefT (List ℕ))
-    → RefusesAll itself (λ r s₁. deserialize.Post κs (lent (2 ∷ replicate 11 0), (lent (nines 6), tt)) r (s′, (s₁, tt))) 5 (1 ∷ 0 ∷ 1 ∷ 0 ∷ 0 ∷ 9 ∷ [])
+    → RefusesAll itself (λ r s₁. deserialize.Post κs (lent (2 ∷ replicate (packetLength kind32 1 - 1) 0), (lent (nines (headWords kind32 + 2)), tt)) r
+    (s′, (s₁, tt))) 5
+    (head kind32 1 0 1 0 ++ 0 ∷ 9 ∷ [])
 unfolding readIn calls.read every number allNumbers sketchIn wordsOf
 deserialize-wrong κs s′ = all-differ itself itself (at 1) _ _ refl refl refl

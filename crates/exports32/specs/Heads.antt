@@ -5,13 +5,23 @@ use mathlib.Core.List.{List}
 use Prim.Native.Nat.{ℕ}
 use lib.ListN.{getD}
 use Rattle.rules.specs.Kind.{kind32}
-use Rattle.rules.specs.Words.{wordsFit}
+use Rattle.rules.specs.Words.{hasAt, lastAt, countIn, wordsFit}
 use Rattle.exports32.specs.declared.words.Head.{Head}
 
 -- What words that do not fit have: zeros.
 abbrev pub noHead : Head
 noHead = record { fits = false; threshold = 0; count = 0; has = 0; last = 0 }
 
--- The four words of words that fit.
+-- The parts of words that fit.
+abbrev pub headParts : List ℕ → Head
+headParts ws = record {
+  fits = true;
+  threshold = getD ws 0 0;
+  count = countIn kind32 ws;
+  has = getD ws (hasAt kind32) 0;
+  last = getD ws (lastAt kind32) 0;
+}
+
+-- The parts of words that fit, and otherwise zeros.
 unfoldable pub headIn : List ℕ → Head
-headIn ws = cond (wordsFit kind32 ws) (record { fits = true; threshold = getD ws 0 0; count = getD ws 1 0; has = getD ws 2 0; last = getD ws 3 0 }) noHead
+headIn ws = cond (wordsFit kind32 ws) (headParts ws) noHead

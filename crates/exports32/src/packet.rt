@@ -5,15 +5,17 @@ ghost use Rattle.rules.specs.Kind.{kind32};
 ghost use Rattle.rules.specs.Calls.{refusalOf, written};
 ghost use Rattle.rules.specs.Words.{writeIn, writeWithHintIn, readIn};
 ghost use Rattle.lent.specs.Answers.{numbered};
+use crate::layout;
+use crate::layout::HEAD;
 use crate::words;
-use crate::words::HEAD;
 use lent::Number;
 use modint32::Code;
 use modint32::Residue;
+use modint32::Word;
 use sums32::packet;
 
 #[no_mangle]
-pub extern "C" fn eddy32_serialize_with_hint(s: &[u32], buf: &mut [u8], hint: usize) -> Number
+pub extern "C" fn eddy32_serialize_with_hint(s: &[Word], buf: &mut [u8], hint: usize) -> Number
     ensures answer { λ r. ⌜ r ≡ numbered (writeWithHintIn kind32 (now (s .entry)) hint (length (now (buf .entry)))) ⌝ }
     ensures buffer { λ r. ⌜ now (buf .exit) ≡ written (writeWithHintIn kind32 (now (s .entry)) hint (length (now (buf .entry)))) (now (buf .entry)) ⌝ }
 {
@@ -34,7 +36,7 @@ pub extern "C" fn eddy32_serialize_with_hint(s: &[u32], buf: &mut [u8], hint: us
 }
 
 #[no_mangle]
-pub extern "C" fn eddy32_serialize(s: &[u32], buf: &mut [u8]) -> Number
+pub extern "C" fn eddy32_serialize(s: &[Word], buf: &mut [u8]) -> Number
     ensures answer { λ r. ⌜ r ≡ numbered (writeIn kind32 (now (s .entry)) (length (now (buf .entry)))) ⌝ }
     ensures buffer { λ r. ⌜ now (buf .exit) ≡ written (writeIn kind32 (now (s .entry)) (length (now (buf .entry)))) (now (buf .entry)) ⌝ }
 {
@@ -42,16 +44,16 @@ pub extern "C" fn eddy32_serialize(s: &[u32], buf: &mut [u8]) -> Number
 }
 
 #[no_mangle]
-pub extern "C" fn eddy32_deserialize(buf: &[u8], out: &mut [u32]) -> u32
+pub extern "C" fn eddy32_deserialize(buf: &[u8], out: &mut [Word]) -> u32
     ensures refusal { λ r. ⌜ r ≡ refusalOf (readIn kind32 (now (buf .entry)) (length (now (out .entry)))) ⌝ }
     ensures words { λ r. ⌜ now (out .exit) ≡ written (readIn kind32 (now (buf .entry)) (length (now (out .entry)))) (now (out .entry)) ⌝ }
 {
     let at = lent::smaller(out.len(), HEAD);
-    let heads = packet::read(buf, &mut out[at..]);
-    if heads.refusal != 0 {
-        return heads.refusal;
+    let head = packet::read(buf, &mut out[at..]);
+    if head.refusal != 0 {
+        return head.refusal;
     }
-    let last = heads.last;
-    words::put_head(out, heads.threshold, heads.count, 1, last.value());
+    let last = head.last;
+    layout::put_head(out, head.threshold, head.count, 1, last.value());
     0
 }

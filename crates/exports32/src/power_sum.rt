@@ -4,16 +4,18 @@ ghost use lib.ListN.{length};
 ghost use Rattle.rules.specs.Kind.{kind32};
 ghost use Rattle.rules.specs.Calls.{refusalOf, written};
 ghost use Rattle.rules.specs.Words.{newIn, wellFormedIn, insertIn, removeIn, subAssignIn, subIn};
+use crate::layout;
+use crate::layout::HEAD;
 use crate::words;
-use crate::words::HEAD;
 use modint32::Code;
 use modint32::PLACES;
 use modint32::Residue;
+use modint32::Word;
 use sums32::places;
 use sums32::powers;
 
 #[no_mangle]
-pub extern "C" fn eddy32_new(threshold: usize, out: &mut [u32]) -> u32
+pub extern "C" fn eddy32_new(threshold: usize, out: &mut [Word]) -> u32
     ensures refusal { λ r. ⌜ r ≡ refusalOf (newIn kind32 threshold (length (now (out .entry)))) ⌝ }
     ensures words { λ r. ⌜ now (out .exit) ≡ written (newIn kind32 threshold (length (now (out .entry)))) (now (out .entry)) ⌝ }
 {
@@ -27,20 +29,20 @@ pub extern "C" fn eddy32_new(threshold: usize, out: &mut [u32]) -> u32
     if out.len() < end {
         return 5;
     }
-    words::put_head(out, threshold, 0, 0, 0);
+    layout::put_head(out, threshold, 0, 0, 0);
     places::clear(&mut out[HEAD..end]);
     0
 }
 
 #[no_mangle]
-pub extern "C" fn eddy32_well_formed(s: &[u32]) -> u32
+pub extern "C" fn eddy32_well_formed(s: &[Word]) -> u32
     ensures { λ r. ⌜ r ≡ wellFormedIn kind32 (now (s .entry)) ⌝ }
 {
     if words::head_of(s).fits { 1 } else { 0 }
 }
 
 #[no_mangle]
-pub extern "C" fn eddy32_insert(s: &mut [u32], code: u32) -> u32
+pub extern "C" fn eddy32_insert(s: &mut [Word], code: Word) -> u32
     ensures refusal { λ r. ⌜ r ≡ refusalOf (insertIn kind32 (now (s .entry)) code) ⌝ }
     ensures words { λ r. ⌜ now (s .exit) ≡ written (insertIn kind32 (now (s .entry)) code) (now (s .entry)) ⌝ }
 {
@@ -51,13 +53,13 @@ pub extern "C" fn eddy32_insert(s: &mut [u32], code: u32) -> u32
     let x = Residue::reduce(Code(code));
     let end = HEAD + head.threshold;
     let count = std::num::wrapping_add_u32(head.count, 1);
-    words::put_head(s, head.threshold, count, 1, x.value());
+    layout::put_head(s, head.threshold, count, 1, x.value());
     powers::shift_by_powers(&mut s[HEAD..end], x, false);
     0
 }
 
 #[no_mangle]
-pub extern "C" fn eddy32_remove(s: &mut [u32], code: u32) -> u32
+pub extern "C" fn eddy32_remove(s: &mut [Word], code: Word) -> u32
     ensures refusal { λ r. ⌜ r ≡ refusalOf (removeIn kind32 (now (s .entry)) code) ⌝ }
     ensures words { λ r. ⌜ now (s .exit) ≡ written (removeIn kind32 (now (s .entry)) code) (now (s .entry)) ⌝ }
 {
@@ -70,13 +72,13 @@ pub extern "C" fn eddy32_remove(s: &mut [u32], code: u32) -> u32
     let count = std::num::wrapping_sub_u32(head.count, 1);
     let has = words::unless_last(head.has, head.last, code);
     let last = words::unless_last(head.last, head.last, code);
-    words::put_head(s, head.threshold, count, has, last);
+    layout::put_head(s, head.threshold, count, has, last);
     powers::shift_by_powers(&mut s[HEAD..end], x, true);
     0
 }
 
 #[no_mangle]
-pub extern "C" fn eddy32_sub_assign(s: &mut [u32], rhs: &[u32]) -> u32
+pub extern "C" fn eddy32_sub_assign(s: &mut [Word], rhs: &[Word]) -> u32
     ensures refusal { λ r. ⌜ r ≡ refusalOf (subAssignIn kind32 (now (s .entry)) (now (rhs .entry))) ⌝ }
     ensures words { λ r. ⌜ now (s .exit) ≡ written (subAssignIn kind32 (now (s .entry)) (now (rhs .entry))) (now (s .entry)) ⌝ }
 {
@@ -93,13 +95,13 @@ pub extern "C" fn eddy32_sub_assign(s: &mut [u32], rhs: &[u32]) -> u32
     }
     let end = HEAD + head.threshold;
     let count = std::num::wrapping_sub_u32(head.count, other.count);
-    words::put_head(s, head.threshold, count, 0, 0);
+    layout::put_head(s, head.threshold, count, 0, 0);
     places::subtract(&mut s[HEAD..end], &rhs[HEAD..end]);
     0
 }
 
 #[no_mangle]
-pub extern "C" fn eddy32_sub(s: &[u32], rhs: &[u32], out: &mut [u32]) -> u32
+pub extern "C" fn eddy32_sub(s: &[Word], rhs: &[Word], out: &mut [Word]) -> u32
     ensures refusal { λ r. ⌜ r ≡ refusalOf (subIn kind32 (now (s .entry)) (now (rhs .entry)) (length (now (out .entry)))) ⌝ }
     ensures words { λ r. ⌜ now (out .exit) ≡ written (subIn kind32 (now (s .entry)) (now (rhs .entry)) (length (now (out .entry)))) (now (out .entry)) ⌝ }
 {
@@ -117,7 +119,7 @@ pub extern "C" fn eddy32_sub(s: &[u32], rhs: &[u32], out: &mut [u32]) -> u32
         return 5;
     }
     let count = std::num::wrapping_sub_u32(head.count, other.count);
-    words::put_head(out, threshold, count, 0, 0);
+    layout::put_head(out, threshold, count, 0, 0);
     places::put_differences(&mut out[HEAD..end], &s[HEAD..end], &rhs[HEAD..end]);
     0
 }

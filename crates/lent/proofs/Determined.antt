@@ -13,7 +13,6 @@ use Rattle.lent.proofs.smaller.Reads as smaller
 use Rattle.lent.proofs.put_number.Reads as put-number
 use Rattle.lent.proofs.number_of.Reads as number-of
 use Rattle.lent.proofs.count_of.Reads as count-of
-use Rattle.lent.proofs.greatest.Reads as greatest
 
 -- A promise determines what a lent slice holds at the end: any two that it allows hold the same.
 abbrev pub Leaves : (RefT (List ℕ) → Type 0) → Type 0
@@ -46,7 +45,3 @@ number-of-determined κs part part′ r r′ p q = p .0 ∙ sym (q .0)
 -- A packet says one count.
 pub count-of-determined : (κs : Lfts 1) (part part′ : RefT (List ℕ)) → Determines (λ r. count-of.Post κs (part, tt) r (part′, tt))
 count-of-determined κs part part′ = by-equation _
-
--- A slice has one greatest number.
-pub greatest-determined : (κs : Lfts 1) (numbers numbers′ : RefT (List ℕ)) → Determines (λ r. greatest.Post κs (numbers, tt) r (numbers′, tt))
-greatest-determined κs numbers numbers′ = by-equation _

@@ -5,7 +5,6 @@ use mathlib.Core.Path.{refl}
 use mathlib.Core.List.{List, [], _∷_}
 use lib.ListN.{getD}
 use contract.Lifetimes.{Lfts}
-use Rattle.rules.specs.Sums as sums
 use Rattle.rules.specs.Determines.{RefusesBoth}
 use Rattle.rules.specs.Packet.{bytes, number}
 use Rattle.rules.proofs.Determined.{lent, differs, both-differ}
@@ -17,7 +16,6 @@ use Rattle.lent.proofs.smaller.Reads as smaller
 use Rattle.lent.proofs.put_number.Reads as put-number
 use Rattle.lent.proofs.number_of.Reads as number-of
 use Rattle.lent.proofs.count_of.Reads as count-of
-use Rattle.lent.proofs.greatest.Reads as greatest
 
 -- A refusal is said to be none, or to have written something.
 pub refused-wrong : RefusesBoth (λ r. refused.Post tt (5, tt) r (5, tt)) (counted 0) (counted 5)
@@ -47,8 +45,3 @@ pub count-of-wrong : (κs : Lfts 1)
     → RefusesBoth (λ r. count-of.Post κs (lent (2 ∷ 1 ∷ 0 ∷ 0 ∷ 1 ∷ []), tt) r (lent (2 ∷ 1 ∷ 0 ∷ 0 ∷ 1 ∷ []), tt)) 33619968 4294967554
 unfolding number
 count-of-wrong κs = both-differ (λ (n : ℕ). n) _ _ refl refl
-
--- The last number, or the least.
-pub greatest-wrong : (κs : Lfts 1) → RefusesBoth (λ r. greatest.Post κs (lent (1 ∷ 3 ∷ 2 ∷ []), tt) r (lent (1 ∷ 3 ∷ 2 ∷ []), tt)) 2 1
-unfolding sums.greatest
-greatest-wrong κs = both-differ (λ (n : ℕ). n) _ _ refl refl

@@ -1,11 +1,10 @@
-// What every width of code does with slices that are lent: the greatest number, numbers as bytes, the lowest byte first, and the answer of a call that
-// writes a list.
+// What every width of code does with slices that are lent: numbers as bytes, the lowest byte first, and the answer of a call that writes a
+// list.
 ghost use mathlib.Core.Path.{_≡_};
 ghost use Prim.Native.Nat.{_<_, _^_, min};
 ghost use lib.ListN.{length, take};
 ghost use Rattle.rules.specs.Kind.{countBytes};
 ghost use Rattle.rules.specs.Packet.{bytes, number};
-ghost use Rattle.rules.specs.Sums.{greatest};
 ghost use Rattle.rules.specs.Calls.{refused};
 ghost use Rattle.lent.specs.Answers.{numbered, counted};
 
@@ -43,18 +42,6 @@ fn wide(byte: u8) -> u64
     ensures { λ r. ⌜ (r ≡ byte) × (r < 256) ⌝ }
 {
     byte as u64
-}
-
-// The greatest number of 32 bits, 0 for none: a loop without a branch.
-pub fn greatest(numbers: &[u32]) -> u32
-    ensures { λ r. ⌜ r ≡ greatest (now (numbers .entry)) ⌝ }
-{
-    let mut most = 0;
-    for k in 0..numbers.len() {
-        let here = numbers[k];
-        most = if most < here { here } else { most };
-    }
-    most
 }
 
 // A number over the whole of a part, in as many bytes as the part has.

@@ -1,10 +1,11 @@
 -- Invented numbers of multiplications: no power that answers with one is allowed by its contract, shown at one exponent each.
 -- Assumes nothing.
 use Prim.Native.Nat.{ℕ, suc}
-use mathlib.Core.Path.{_≡_, ap}
+use mathlib.Core.Path.{_≡_, refl, ap}
 use native.Mathlib.Omega.{arith}
 use Rattle.rules.specs.Kind.{kind32}
 use Rattle.rules.specs.Field.{power, multiplicationsWithin, multiplications}
+use Rattle.rules.proofs.Determined.{differs}
 use Rattle.modint32.specs.declared.Residue.{Residue}
 use Rattle.modint32.specs.declared.Powered.{Powered}
 use Rattle.modint32.specs.Answers.{wrap}
@@ -32,7 +33,7 @@ next-exponent-falls p = let e : _≡_ {A = ℕ} 5 4 = ap (λ (r : Powered). r .m
 -- The number alone is 0, or as large as the exponent.
 pub none-falls : pow-multiplications.Post tt (4294967295, tt) 0 (4294967295, tt) → ⊥
 unfolding multiplications multiplicationsWithin
-none-falls p = let e : _≡_ {A = ℕ} 0 62 = p in omega arith
+none-falls = differs (λ (n : ℕ). n) 0 refl
 
 -- A number as large as the exponent is not allowed.
 pub as-many-as-the-exponent-falls : pow-multiplications.Post tt (10, tt) 10 (10, tt) → ⊥

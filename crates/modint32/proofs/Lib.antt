@@ -2,3 +2,4 @@
 pub mod Determined
 pub mod Idle
 pub mod Wrong
+pub mod SliceGuards

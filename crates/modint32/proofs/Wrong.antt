@@ -1,9 +1,10 @@
 -- Two wrong answers for each public call of the field, at one input each: the contract allows neither.
 -- Assumes nothing.
-use Prim.Native.Nat.{ℕ}
+use Prim.Native.Nat.{ℕ, _+_, _-_}
 use mathlib.Core.Path.{refl}
 use Rattle.numbers.specs.Power.{powerWithin, powerMod}
-use Rattle.rules.specs.Field.{multiplicationsWithin, multiplications}
+use Rattle.rules.specs.Kind.{kind32}
+use Rattle.rules.specs.Field.{residue, multiplicationsWithin, multiplications, inverse}
 use Rattle.rules.specs.Determines.{holds, RefusesBoth}
 use Rattle.rules.proofs.Determined.{differs, both-differ}
 use Rattle.modint32.specs.declared.Code.{Code}
@@ -102,35 +103,35 @@ unfolding multiplications multiplicationsWithin
 pow-multiplications-wrong = both-differ itself _ _ refl refl
 
 -- One for the inverse of 2, or a number near it.
-pub residue-inv-wrong : RefusesBoth (holds (residue-inv.Post tt) (wrap 2, tt)) (wrap 1) (wrap 2147483645)
+pub residue-inv-wrong : RefusesBoth (holds (residue-inv.Post tt) (wrap 2, tt)) (wrap 1) (wrap (inverse kind32 2 - 1))
 unfolding powerMod powerWithin
 residue-inv-wrong = both-differ val _ _ refl refl
 
 -- ---- codes
 
 -- Codes are added modulo 2^32, or one too small.
-pub code-add-wrong : RefusesBoth (holds (code-add.Post tt) (code 4294967295, (code 1, tt))) (wrap 0) (wrap 4)
+pub code-add-wrong : RefusesBoth (holds (code-add.Post tt) (code 4294967295, (code 1, tt))) (wrap 0) (wrap (residue kind32 4294967295))
 code-add-wrong = both-differ val _ _ refl refl
 
 -- A difference is taken modulo 2^32, or the other way round.
-pub code-sub-wrong : RefusesBoth (holds (code-sub.Post tt) (code 0, (code 4294967295, tt))) (wrap 1) (wrap 4)
+pub code-sub-wrong : RefusesBoth (holds (code-sub.Post tt) (code 0, (code 4294967295, tt))) (wrap 1) (wrap (residue kind32 4294967295))
 code-sub-wrong = both-differ val _ _ refl refl
 
 -- The negative modulo 2^32, or the residue itself.
-pub code-neg-wrong : RefusesBoth (holds (code-neg.Post tt) (code 4294967295, tt)) (wrap 1) (wrap 4)
+pub code-neg-wrong : RefusesBoth (holds (code-neg.Post tt) (code 4294967295, tt)) (wrap 1) (wrap (residue kind32 4294967295))
 code-neg-wrong = both-differ val _ _ refl refl
 
 -- The square modulo 2^32, or the residue itself.
-pub code-mul-wrong : RefusesBoth (holds (code-mul.Post tt) (code 4294967295, (code 4294967295, tt))) (wrap 1) (wrap 4)
+pub code-mul-wrong : RefusesBoth (holds (code-mul.Post tt) (code 4294967295, (code 4294967295, tt))) (wrap 1) (wrap (residue kind32 4294967295))
 code-mul-wrong = both-differ val _ _ refl refl
 
 -- The code, or its residue, for the inverse.
-pub code-inv-wrong : RefusesBoth (holds (code-inv.Post tt) (code 4294967293, tt)) (wrap 4294967293) (wrap 2)
+pub code-inv-wrong : RefusesBoth (holds (code-inv.Post tt) (code (kind32 .modulus + 2), tt)) (wrap (kind32 .modulus + 2)) (wrap 2)
 unfolding powerMod powerWithin
 code-inv-wrong = both-differ val _ _ refl refl
 
 -- Entry 1 is the inverse of 1, or that of 3.
-pub inverse-at-wrong : RefusesBoth (holds (inverse-at.Post tt) (1, tt)) (wrap 1) (wrap 1431655764)
+pub inverse-at-wrong : RefusesBoth (holds (inverse-at.Post tt) (1, tt)) (wrap 1) (wrap (inverse kind32 3))
 unfolding powerMod powerWithin
 inverse-at-wrong = both-differ val _ _ refl refl
 
@@ -149,6 +150,6 @@ unfolding powerMod powerWithin multiplications multiplicationsWithin
 residue-pow-wrong = (differs (λ (r : Powered). val (r .value)) halved refl, differs (λ (r : Powered). r .multiplications) overcounted refl)
 
 -- So for the power of a code whose residue is 2.
-pub code-pow-wrong : RefusesBoth (holds (code-pow.Post tt) (code 4294967293, (10, tt))) halved overcounted
+pub code-pow-wrong : RefusesBoth (holds (code-pow.Post tt) (code (kind32 .modulus + 2), (10, tt))) halved overcounted
 unfolding powerMod powerWithin multiplications multiplicationsWithin
 code-pow-wrong = (differs (λ (r : Powered). val (r .value)) halved refl, differs (λ (r : Powered). r .multiplications) overcounted refl)

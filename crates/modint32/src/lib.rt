@@ -6,13 +6,20 @@ ghost use Rattle.rules.specs.Field.{residue, plus, minus, negative, times, mult
 ghost use Rattle.modint32.specs.Answers.{wrap, powered};
 
 pub mod precompute;
+pub mod slices;
+
+// A number of as many bits as a code has.
+pub type Word = u32;
+
+// A number of twice as many bits, which every product of two words fits.
+pub type Wide = u64;
 
 // A code as it is printed on a piece: any number of 32 bits.
-pub struct Code(pub u32);
+pub struct Code(pub Word);
 
 // A residue modulo the prime. Only a reduction turns a code into one.
 #[repr(C)]
-pub struct Residue(u32);
+pub struct Residue(Word);
 
 // A power, and the number of field multiplications that were made for it.
 #[repr(C)]
@@ -30,7 +37,7 @@ pub const CODE_BYTES: usize = 4;
 // ---- numbers modulo the prime, reduced or not: what the residues' operations and the loops over sums are made of
 
 // No choice in these is a branch, and all are between numbers of 32 bits.
-pub fn below(a: u32) -> u32
+pub fn below(a: Word) -> Word
     ensures { λ r. ⌜ r ≡ residue kind32 a ⌝ }
 {
     if a < Residue::MODULUS {
@@ -40,7 +47,7 @@ pub fn below(a: u32) -> u32
     }
 }
 
-pub fn plus(a: u32, b: u32) -> u32
+pub fn plus(a: Word, b: Word) -> Word
     ensures { λ r. ⌜ r ≡ plus kind32 a b ⌝ }
 {
     let x = below(a);
@@ -49,7 +56,7 @@ pub fn plus(a: u32, b: u32) -> u32
     if x < room { x + y } else { x - room }
 }
 
-pub fn minus(a: u32, b: u32) -> u32
+pub fn minus(a: Word, b: Word) -> Word
     ensures { λ r. ⌜ r ≡ minus kind32 a b ⌝ }
 {
     let x = below(a);
@@ -61,21 +68,21 @@ pub fn minus(a: u32, b: u32) -> u32
     }
 }
 
-pub fn times(a: u32, b: u32) -> u32
+pub fn times(a: Word, b: Word) -> Word
     ensures { λ r. ⌜ r ≡ times kind32 a b ⌝ }
 {
-    (((a as u64) * (b as u64)) % (Residue::MODULUS as u64)) as u32
+    (((a as Wide) * (b as Wide)) % (Residue::MODULUS as Wide)) as Word
 }
 
 // The product and a further term, reduced once: a step of Horner's rule.
-pub fn times_plus(a: u32, b: u32, c: u32) -> u32
+pub fn times_plus(a: Word, b: Word, c: Word) -> Word
     ensures { λ r. ⌜ r ≡ plus kind32 (a * b) c ⌝ }
 {
-    (((a as u64) * (b as u64) + (c as u64)) % (Residue::MODULUS as u64)) as u32
+    (((a as Wide) * (b as Wide) + (c as Wide)) % (Residue::MODULUS as Wide)) as Word
 }
 
 impl Residue {
-    pub const MODULUS: u32 = 4294967291;
+    pub const MODULUS: Word = 4294967291;
 
     pub fn reduce(code: Code) -> Residue
         ensures { λ r. ⌜ r ≡ wrap (residue kind32 (code .0)) ⌝ }
@@ -89,7 +96,7 @@ impl Residue {
         Residue(0)
     }
 
-    pub fn value(self) -> u32
+    pub fn value(self) -> Word
         ensures { λ r. ⌜ r ≡ self .0 ⌝ }
     {
         self.0
@@ -127,7 +134,7 @@ impl Residue {
     }
 
     // The exponent is halved until it is 0 or 1; on the way back the power is squared, and multiplied once more where the exponent is odd.
-    pub fn pow(self, exponent: u32) -> Powered
+    pub fn pow(self, exponent: Word) -> Powered
         ensures { λ r. ⌜ r ≡ powered (self .0) exponent ⌝ }
     {
         if exponent == 0 {
@@ -158,7 +165,7 @@ impl Residue {
     }
 
     // The number of multiplications of `pow` alone, from the exponent's digits.
-    pub fn pow_multiplications(exponent: u32) -> u32
+    pub fn pow_multiplications(exponent: Word) -> u32
         ensures { λ r. ⌜ r ≡ multiplications exponent ⌝ }
     {
         if exponent == 0 {
@@ -200,7 +207,7 @@ impl Code {
         Residue::reduce(self).mul(Residue::reduce(rhs))
     }
 
-    pub fn pow(self, exponent: u32) -> Powered
+    pub fn pow(self, exponent: Word) -> Powered
         ensures { λ r. ⌜ r ≡ powered (residue kind32 (self .0)) exponent ⌝ }
     {
         Residue::reduce(self).pow(exponent)

@@ -7,6 +7,7 @@ ghost use Rattle.modint32.specs.Answers.{val, wrap};
 use crate::Code;
 use crate::PLACES;
 use crate::Residue;
+use crate::Word;
 
 // Entry i is the inverse of i + 1.
 const INVERSES: [Residue; PLACES] = [
@@ -59,6 +60,6 @@ pub fn inverse_at(i: usize) -> Residue
         let table = inverses();
         return table[i];
     }
-    let below = (i % (Residue::MODULUS as usize)) as u32;
+    let below = (i % (Residue::MODULUS as usize)) as Word;
     Code(below).add(Code(1)).inv()
 }

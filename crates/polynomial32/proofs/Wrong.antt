@@ -20,14 +20,14 @@ use Rattle.polynomial32.proofs.evaluator.value.Reads as value
 use Rattle.polynomial32.proofs.evaluator.eval.Reads as eval
 
 -- The two coefficients whose roots are 10 and 12, and the code 1.
-abbrev twoCoefficients : List ℕ
+abbrev pub twoCoefficients : List ℕ
 twoCoefficients = 4294967269 ∷ 120 ∷ []
 
-abbrev one : Code
+abbrev pub one : Code
 one = record { 0 = 1 }
 
 -- The number of a refusal.
-abbrev refusal : Evaluated → ℕ
+abbrev pub refusal : Evaluated → ℕ
 refusal r = r .refusal
 
 module _ (κs : Lfts 1) (coeffs₁ : RefT (List ℕ)) where

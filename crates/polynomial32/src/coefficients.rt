@@ -7,10 +7,11 @@ ghost use Rattle.numbers.proofs.Binomial.{sumTo};
 ghost use Rattle.rules.specs.Kind.{kind32};
 ghost use Rattle.rules.specs.Decode.{coefficients};
 ghost use Rattle.rules.specs.Sums.{common};
+use modint32::Word;
 use modint32::precompute;
 
 // The sum s1 · ai + s2 · a(i-1) + .. + si · a1 modulo the prime, for the coefficients a1 .. ai. No product waits for the one before it.
-fn newton_sum(sums: &[u32], coeffs: &[u32]) -> u32
+fn newton_sum(sums: &[Word], coeffs: &[Word]) -> Word
     requires { ⌜ length (now coeffs) ≤ length (now sums) ⌝ }
     ensures { λ r. ⌜ r
         ≡ sumTo (λ (j : ℕ). getD (now (sums .entry)) j 0 * getD (now (coeffs .entry)) (length (now (coeffs .entry)) - j - 1) 0)
@@ -25,7 +26,7 @@ fn newton_sum(sums: &[u32], coeffs: &[u32]) -> u32
 }
 
 // As many coefficients as there are sums and places for them, over the front of a buffer. What it holds is read only where one has been written.
-pub fn put_coefficients(sums: &[u32], coeffs: &mut [u32])
+pub fn put_coefficients(sums: &[Word], coeffs: &mut [Word])
     ensures { λ _. ⌜ now (coeffs .exit) ≡ coefficients kind32 (now (sums .entry)) (common (now (sums .entry)) (now (coeffs .entry)))
         ++ drop (common (now (sums .entry)) (now (coeffs .entry))) (now (coeffs .entry)) ⌝ }
 {

@@ -10,19 +10,21 @@ ghost use Rattle.rules.specs.Kind.{kind32};
 ghost use Rattle.rules.specs.Field.{plus};
 ghost use Rattle.rules.specs.Sketch.{each};
 ghost use Rattle.rules.specs.Decode.{evaluate};
-ghost use Rattle.rules.specs.Sums.{allBelow, roots};
+ghost use Rattle.rules.specs.Sums.{roots};
 ghost use Rattle.rules.specs.Calls as calls;
 ghost use Rattle.rules.specs.Calls.{refused};
 ghost use Rattle.rules.proofs.Listing.{Listed};
 ghost use Rattle.polynomial32.specs.Answers.{valued};
 use modint32::Code;
 use modint32::Residue;
+use modint32::Word;
+use modint32::slices;
 
 // How many entries are valued side by side, so that no product waits for the one before it.
 const BLOCK: usize = 64;
 
 // Without coefficients the polynomial is 1.
-pub fn value(coeffs: &[u32], x: Residue) -> Residue
+pub fn value(coeffs: &[Word], x: Residue) -> Residue
     ensures { λ r. ⌜ r ≡ wrap (evaluate kind32 (now (coeffs .entry)) (x .0)) ⌝ }
 {
     if coeffs.len() == 0 {
@@ -42,7 +44,7 @@ pub struct Evaluated {
     pub value: Residue,
 }
 
-fn not_evaluated(refusal: u32) -> Evaluated
+pub(crate) fn not_evaluated(refusal: u32) -> Evaluated
     ensures { λ r. ⌜ r ≡ valued (refused refusal) ⌝ }
 {
     Evaluated {
@@ -51,21 +53,14 @@ fn not_evaluated(refusal: u32) -> Evaluated
     }
 }
 
-// Whether every coefficient is below the prime.
-fn coefficients_fit(coeffs: &[u32]) -> bool
-    ensures { λ r. ⌜ r ≡ allBelow kind32 (now (coeffs .entry)) ⌝ }
-{
-    lent::greatest(coeffs) < Residue::MODULUS
-}
-
 // The value at a code of coefficients that are lent: 11 where there is none, then 8 where one is not below the prime.
-pub fn eval(coeffs: &[u32], x: Code) -> Evaluated
+pub fn eval(coeffs: &[Word], x: Code) -> Evaluated
     ensures { λ r. ⌜ r ≡ valued (calls.evaluate kind32 (now (coeffs .entry)) (x .0)) ⌝ }
 {
     if coeffs.len() == 0 {
         return not_evaluated(11);
     }
-    if !coefficients_fit(coeffs) {
+    if !slices::all_below(coeffs) {
         return not_evaluated(8);
     }
     Evaluated {
@@ -75,7 +70,7 @@ pub fn eval(coeffs: &[u32], x: Code) -> Evaluated
 }
 
 // Each entry and the first coefficient.
-fn put_firsts(values: &mut [u32], log: &[u32], a: u32)
+fn put_firsts(values: &mut [Word], log: &[Word], a: Word)
     requires { ⌜ length (now values) ≡ length (now log) ⌝ }
     ensures { λ _. ⌜ now (values .exit) ≡ map (λ (c : ℕ). plus kind32 c a) (now (log .entry)) ⌝ }
 {
@@ -85,7 +80,7 @@ fn put_firsts(values: &mut [u32], log: &[u32], a: u32)
 }
 
 // Each value times its entry, and the next coefficient.
-fn step(values: &mut [u32], log: &[u32], a: u32)
+fn step(values: &mut [Word], log: &[Word], a: Word)
     requires { ⌜ length (now values) ≡ length (now log) ⌝ }
     ensures { λ _. ⌜ now (values .exit) ≡ each (λ (j v : ℕ). plus kind32 (v * getD (now (log .entry)) j 0) a) 0 (now (values .entry)) ⌝ }
 {
@@ -95,7 +90,7 @@ fn step(values: &mut [u32], log: &[u32], a: u32)
 }
 
 // The value at each entry of a block.
-fn put_values(coeffs: &[u32], log: &[u32], values: &mut [u32])
+fn put_values(coeffs: &[Word], log: &[Word], values: &mut [Word])
     requires { ⌜ (1 ≤ length (now coeffs)) × (length (now values) ≡ length (now log)) ⌝ }
     ensures { λ _. ⌜ now (values .exit) ≡ map (evaluate kind32 (now (coeffs .entry))) (now (log .entry)) ⌝ }
 {
@@ -106,7 +101,7 @@ fn put_values(coeffs: &[u32], log: &[u32], values: &mut [u32])
 }
 
 // The entries of a block whose value is 0, over the front of a buffer. Answers how many there are.
-fn put_zeros(log: &[u32], values: &[u32], out: &mut [u32]) -> usize
+fn put_zeros(log: &[Word], values: &[Word], out: &mut [Word]) -> usize
     requires { ⌜ (length (now values) ≡ length (now log)) × (length (now log) ≤ length (now out)) ⌝ }
     ensures { λ r. ⌜ ((f : ℕ → ℕ) → now (values .entry) ≡ map f (now (log .entry))
         → Listed (λ (c : ℕ). eqb (f c) 0) (now (log .entry)) (now (out .entry)) (now (out .exit)) r) ⌝ }
@@ -123,19 +118,19 @@ fn put_zeros(log: &[u32], values: &[u32], out: &mut [u32]) -> usize
 }
 
 // The entries of a block that are roots, over the front of a buffer. Answers how many there are.
-fn put_block(coeffs: &[u32], log: &[u32], out: &mut [u32]) -> usize
+fn put_block(coeffs: &[Word], log: &[Word], out: &mut [Word]) -> usize
     requires { ⌜ (1 ≤ length (now coeffs)) × (length (now log) ≤ 64) × (length (now log) ≤ length (now out)) ⌝ }
     ensures { λ r. ⌜ Listed (λ (c : ℕ). eqb (evaluate kind32 (now (coeffs .entry)) c) 0) (now (log .entry)) (now (out .entry)) (now (out .exit)) r ⌝ }
     ensures few { λ r. ⌜ r ≤ length (now (log .entry)) ⌝ }
 {
     let m = log.len();
-    let mut values = [0u32; BLOCK];
+    let mut values: [Word; BLOCK] = [0; BLOCK];
     put_values(coeffs, log, &mut values[0..m]);
     put_zeros(log, &values[0..m], out)
 }
 
 // The entries of a log that are roots, as far as the buffer has places, over its front. Answers how many there are.
-pub fn put_roots(coeffs: &[u32], log: &[u32], out: &mut [u32]) -> usize
+pub fn put_roots(coeffs: &[Word], log: &[Word], out: &mut [Word]) -> usize
     ensures many { λ r. ⌜ r ≡ length (roots kind32 (now (coeffs .entry)) (take (length (now (out .entry))) (now (log .entry)))) ⌝ }
     ensures buffer { λ r. ⌜ now (out .exit) ≡ roots kind32 (now (coeffs .entry)) (take (length (now (out .entry))) (now (log .entry)))
         ++ drop r (now (out .entry)) ⌝ }

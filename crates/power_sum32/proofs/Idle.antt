@@ -16,7 +16,7 @@ use Rattle.modint32.specs.Answers.{val}
 use Rattle.rules.specs.Kind.{kind32}
 use Rattle.rules.specs.Sketch as sketch
 use Rattle.rules.specs.Sketch.{fresh, each, wellFormed}
-use Rattle.rules.specs.Packet.{bytes, number, allBytes, allNumbers, packet}
+use Rattle.rules.specs.Packet.{bytes, number, allBytes, allNumbers, packet, packetLength}
 use Rattle.rules.specs.Decode as decoding
 use Rattle.rules.specs.Calls as calls
 use Rattle.rules.specs.Determines.{holds, MustAnswer}
@@ -107,7 +107,8 @@ unfolding sketch.insert fresh each every wellFormed writeWithHintOf calls.writeW
 serialize-with-hint-must-answer κs buf₁ a t p = must-answer refused refl a t (p .0)
 
 -- Reading, of twelve bytes 0.
-pub deserialize-must-answer : (κs : Lfts 1) (buf₁ : RefT (List ℕ)) → MustAnswer refusal (λ r. deserialize.Post κs (lent (replicate 12 0), tt) r (buf₁, tt))
+pub deserialize-must-answer : (κs : Lfts 1) (buf₁ : RefT (List ℕ))
+    → MustAnswer refusal (λ r. deserialize.Post κs (lent (replicate (packetLength kind32 1) 0), tt) r (buf₁, tt))
 unfolding readOf calls.read every number allNumbers
 deserialize-must-answer κs buf₁ = must-answer refusal refl
 

@@ -1,9 +1,9 @@
 -- The promise for the calls that run, applied at its limit: a history with a removal before its insertion, both subtractions and a packet with a hint, whose
 -- sketch keeps two sums and lacks exactly two codes. So its premises can be met, and one that asked for more would not be met here.
 -- Assumes nothing.
-use Prim.Native.Nat.{ℕ}
+use Prim.Native.Nat.{ℕ, _-_}
 use mathlib.Core.Path.{_≡_, refl}
-use mathlib.Core.List.{List, [], _∷_}
+use mathlib.Core.List.{List, [], _∷_, _++_}
 use mathlib.Core.Logic.{inl, inr}
 use native.Mathlib.Omega.{arith}
 use lib.Dec.{lit≤}
@@ -13,6 +13,7 @@ use denote.Ref.{RefT, now}
 use Rattle.numbers.specs.Table.{every}
 use Rattle.newton.specs.Members.{AllBelow}
 use Rattle.rules.specs.Kind.{kind32}
+use Rattle.rules.specs.Field.{residue}
 use Rattle.rules.specs.Sketch.{Sketch, fresh, insert, remove, subtract, cut, each, wellFormed}
 use Rattle.rules.specs.Packet.{bytes, number, allBytes, allNumbers, packet, sketchIn}
 use Rattle.rules.specs.Calls as calls
@@ -103,17 +104,17 @@ limit-same κs = same-net (ran κs) two-left ran-two (record { none-below = λ r
 
 -- ---- a packet
 
--- One sum and three bytes more, and a last code that is to be reduced.
-abbrev fifteen : List ℕ
-fifteen = 1 ∷ 0 ∷ 0 ∷ 0 ∷ 255 ∷ 255 ∷ 255 ∷ 255 ∷ 5 ∷ 0 ∷ 0 ∷ 0 ∷ 9 ∷ 9 ∷ 9 ∷ []
+-- One sum and as many bytes more as are not another, and a last code that is to be reduced.
+abbrev trailed : List ℕ
+trailed = packet kind32 1 4294967295 (5 ∷ []) ++ replicate (kind32 .codeBytes - 1) 9
 
 -- They are bytes.
-fifteen-bytes : AllBelow 256 fifteen
-unfolding every
-fifteen-bytes = every-below 256 0 fifteen refl
+trailed-bytes : AllBelow 256 trailed
+unfolding every packet bytes allBytes
+trailed-bytes = every-below 256 0 trailed refl
 
--- Read and written again, they are twelve, with the last code 4.
-pub limit-written-again : {s : PowerSumQuackU32} {again : List ℕ} → Read fifteen s → Wrote s again
-    → again ≡ 1 ∷ 0 ∷ 0 ∷ 0 ∷ 4 ∷ 0 ∷ 0 ∷ 0 ∷ 5 ∷ 0 ∷ 0 ∷ 0 ∷ []
-unfolding bytes number
-limit-written-again p q = read-and-written fifteen fifteen-bytes p q
+-- Read and written again, they are those of the sum, with the last code reduced.
+pub limit-written-again : {s : PowerSumQuackU32} {again : List ℕ} → Read trailed s → Wrote s again
+    → again ≡ packet kind32 1 (residue kind32 4294967295) (5 ∷ [])
+unfolding bytes number packet allBytes
+limit-written-again p q = read-and-written trailed trailed-bytes p q

@@ -1,6 +1,6 @@
 -- Two wrong answers for each public call of the sketch, at one input each: the contract allows neither.
 -- Assumes nothing.
-use Prim.Native.Nat.{ℕ}
+use Prim.Native.Nat.{ℕ, _+_, _-_}
 use mathlib.Core.Path.{refl}
 use mathlib.Core.Bool.{Bool, true, false, cond}
 use mathlib.Core.List.{List, [], _∷_}
@@ -13,7 +13,7 @@ use Rattle.modint32.specs.Answers.{val, wrap}
 use Rattle.rules.specs.Kind.{kind32}
 use Rattle.rules.specs.Sketch as sketch
 use Rattle.rules.specs.Sketch.{fresh, each, wellFormed}
-use Rattle.rules.specs.Packet.{bytes, number, allBytes, allNumbers, packet, sketchIn}
+use Rattle.rules.specs.Packet.{bytes, number, allBytes, allNumbers, packet, packetLength, sketchIn}
 use Rattle.rules.specs.Decode as decoding
 use Rattle.rules.specs.Calls as calls
 use Rattle.rules.specs.Determines.{holds, RefusesBoth, RefusesEither}
@@ -71,13 +71,13 @@ first l = getD l 0 0
 
 -- ---- made and looked at
 
--- A threshold of 33 is made, or refused by 2.
-pub new-wrong : RefusesBoth (holds (new.Post tt) (33, tt)) (answered 0 (built (fresh 33))) (answered 2 empty)
+-- A threshold above the greatest is made, or refused by 2.
+pub new-wrong : RefusesBoth (holds (new.Post tt) (kind32 .greatest + 1, tt)) (answered 0 (built (fresh (kind32 .greatest + 1)))) (answered 2 empty)
 unfolding newOf calls.make fresh
 new-wrong = both-differ refusal _ _ refl refl
 
 -- The places, or the count, for the threshold.
-pub threshold-wrong : RefusesBoth (holds (threshold.Post tt) (both, tt)) 32 2
+pub threshold-wrong : RefusesBoth (holds (threshold.Post tt) (both, tt)) (kind32 .greatest) 2
 unfolding fresh sketch.insert
 threshold-wrong = both-differ itself _ _ refl refl
 
@@ -134,7 +134,7 @@ unfolding fresh each every wellFormed sketch.insert sketch.subtract subAssignOf 
 sub-assign-wrong = both-differ refusal _ _ refl refl
 
 -- The greater threshold is kept, or the places.
-pub sub-wrong : RefusesBoth (holds (sub.Post tt) (both, (built (fresh 2), tt))) (answered 0 both) (answered 0 (built (fresh 32)))
+pub sub-wrong : RefusesBoth (holds (sub.Post tt) (both, (built (fresh 2), tt))) (answered 0 both) (answered 0 (built (fresh (kind32 .greatest))))
 unfolding fresh each every wellFormed sketch.insert sketch.subtract subOf calls.sub
 sub-wrong = both-differ threshold-of _ _ refl refl
 
@@ -158,19 +158,21 @@ decode-with-log-wrong κs log₁ = either-differs many first _ _ refl refl
 
 -- One byte too few is counted, or the count's highest byte comes first.
 pub serialize-wrong : (κs : Lfts 1)
-    → RefusesEither (λ r buf₁. serialize.Post κs (both, (lent (replicate 20 0), tt)) r (both, (buf₁, tt))) (counted 19) (0 ∷ 0 ∷ 0 ∷ 2 ∷ replicate 16 0)
+    → RefusesEither (λ r buf₁. serialize.Post κs (both, (lent (replicate (packetLength kind32 3) 0), tt)) r (both, (buf₁, tt)))
+    (counted (packetLength kind32 3 - 1)) (0 ∷ 0 ∷ 0 ∷ 2 ∷ replicate (packetLength kind32 3 - 4) 0)
 unfolding fresh each every wellFormed sketch.insert writeOf calls.write packet bytes allBytes
 serialize-wrong κs = either-differs many first _ _ refl refl
 
 -- Every sum is written in spite of the hint, or the hint is the count.
 pub serialize-with-hint-wrong : (κs : Lfts 1)
-    → RefusesEither (λ r buf₁. serialize-with-hint.Post κs (both, (lent (replicate 20 0), (1, tt))) r (both, (buf₁, (1, tt)))) (counted 20) (1 ∷ replicate 19 0)
+    → RefusesEither (λ r buf₁. serialize-with-hint.Post κs (both, (lent (replicate (packetLength kind32 3) 0), (1, tt))) r (both, (buf₁, (1, tt))))
+    (counted (packetLength kind32 3)) (1 ∷ replicate (packetLength kind32 3 - 1) 0)
 unfolding fresh each every wellFormed sketch.insert writeWithHintOf calls.writeWithHint packet bytes allBytes
 serialize-with-hint-wrong κs = either-differs many first _ _ refl refl
 
 -- Of a count of 2 and one sum, the count is forgotten, or 1.
 pub deserialize-wrong : (κs : Lfts 1) (buf₁ : RefT (List ℕ))
-    → RefusesBoth (λ r. deserialize.Post κs (lent (2 ∷ replicate 11 0), tt) r (buf₁, tt)) (answered 0 (built (fresh 1)))
+    → RefusesBoth (λ r. deserialize.Post κs (lent (2 ∷ replicate (packetLength kind32 1 - 1) 0), tt) r (buf₁, tt)) (answered 0 (built (fresh 1)))
     (answered 0 (built (sketch.insert kind32 (fresh 1) 0)))
 unfolding fresh each sketch.insert readOf calls.read every number allNumbers sketchIn
 deserialize-wrong κs buf₁ = both-differ count-of _ _ refl refl

@@ -7,11 +7,12 @@ ghost use Rattle.power_sum32.specs.Answers.{coefficientsOf, decodeOf};
 use crate::power_sum::PowerSumQuackU32;
 use lent::Number;
 use modint32::PLACES;
+use modint32::Word;
 use polynomial32::coefficients;
 use polynomial32::evaluator;
 
 impl PowerSumQuackU32 {
-    pub fn to_coeffs(self, coeffs: &mut [u32]) -> Number
+    pub fn to_coeffs(self, coeffs: &mut [Word]) -> Number
         ensures answer { λ r. ⌜ r ≡ numbered (coefficientsOf self (length (now (coeffs .entry)))) ⌝ }
         ensures buffer { λ r. ⌜ now (coeffs .exit) ≡ written (coefficientsOf self (length (now (coeffs .entry)))) (now (coeffs .entry)) ⌝ }
     {
@@ -31,11 +32,11 @@ impl PowerSumQuackU32 {
         Number::wrote(n)
     }
 
-    pub fn decode_with_log(self, log: &[u32], out: &mut [u32]) -> Number
+    pub fn decode_with_log(self, log: &[Word], out: &mut [Word]) -> Number
         ensures answer { λ r. ⌜ r ≡ numbered (decodeOf self (now (log .entry)) (length (now (out .entry)))) ⌝ }
         ensures buffer { λ r. ⌜ now (out .exit) ≡ written (decodeOf self (now (log .entry)) (length (now (out .entry)))) (now (out .entry)) ⌝ }
     {
-        let mut coeffs = [0u32; PLACES];
+        let mut coeffs: [Word; PLACES] = [0; PLACES];
         let solved = self.to_coeffs(&mut coeffs);
         if solved.refusal != 0 {
             return solved;

@@ -10,6 +10,7 @@ use crate::power_sum::Last;
 use crate::power_sum::PowerSumQuackU32;
 use lent::Number;
 use modint32::PLACES;
+use modint32::Word;
 use sums32::packet;
 
 impl PowerSumQuackU32 {
@@ -42,12 +43,12 @@ impl PowerSumQuackU32 {
     pub fn deserialize(buf: &[u8]) -> Answer
         ensures { λ r. ⌜ r ≡ readOf (now (buf .entry)) ⌝ }
     {
-        let mut sums = [0u32; PLACES];
-        let heads = packet::read(buf, &mut sums);
-        if heads.refusal != 0 {
-            return power_sum::no_sketch(heads.refusal);
+        let mut sums: [Word; PLACES] = [0; PLACES];
+        let head = packet::read(buf, &mut sums);
+        if head.refusal != 0 {
+            return power_sum::no_sketch(head.refusal);
         }
-        let last = heads.last;
-        power_sum::accepted(heads.threshold, sums, heads.count, Last::Code(last))
+        let last = head.last;
+        power_sum::accepted(head.threshold, sums, head.count, Last::Code(last))
     }
 }

@@ -10,6 +10,7 @@ ghost use Rattle.power_sum32.specs.Answers.{view, lastOf, lastTo, wellFo
 use modint32::Code;
 use modint32::PLACES;
 use modint32::Residue;
+use modint32::Word;
 use sums32::places;
 use sums32::powers;
 
@@ -65,7 +66,7 @@ fn last_without(last: Last, code: Code) -> Last
 }
 
 // The residues of numbers.
-fn residues(numbers: [u32; PLACES]) -> [Residue; PLACES]
+fn residues(numbers: [Word; PLACES]) -> [Residue; PLACES]
     requires { ⌜ allBelow kind32 numbers ≡ true ⌝ }
     ensures { λ r. ⌜ r ≡ map wrap numbers ⌝ }
 {
@@ -77,7 +78,7 @@ fn residues(numbers: [u32; PLACES]) -> [Residue; PLACES]
 }
 
 // A sketch whose places hold these numbers.
-pub(crate) fn accepted(threshold: usize, sums: [u32; PLACES], count: u32, last: Last) -> Answer
+pub(crate) fn accepted(threshold: usize, sums: [Word; PLACES], count: u32, last: Last) -> Answer
     requires { ⌜ allBelow kind32 sums ≡ true ⌝ }
     ensures { λ r. ⌜ r ≡ answered 0 (record { threshold = threshold; sums = map wrap sums; count = count; last = last }) ⌝ }
 {
@@ -111,11 +112,11 @@ pub(crate) fn no_sketch(refusal: u32) -> Answer
 
 impl PowerSumQuackU32 {
     // The numbers of its places.
-    pub(crate) fn numbers(self) -> [u32; PLACES]
+    pub(crate) fn numbers(self) -> [Word; PLACES]
         ensures { λ r. ⌜ r ≡ map val (self .sums) ⌝ }
     {
         let places = self.sums;
-        let mut numbers = [0u32; PLACES];
+        let mut numbers: [Word; PLACES] = [0; PLACES];
         for k in 0..PLACES {
             let here = places[k];
             numbers[k] = here.value();
@@ -138,7 +139,7 @@ impl PowerSumQuackU32 {
         if !in_range(threshold) {
             return no_sketch(1);
         }
-        accepted(threshold, [0u32; PLACES], 0, Last::Nothing)
+        accepted(threshold, [0; PLACES], 0, Last::Nothing)
     }
 
     pub fn threshold(self) -> usize
@@ -175,7 +176,7 @@ impl PowerSumQuackU32 {
     }
 
     // The places of a well-formed sketch once each sum has moved by its power of a residue.
-    fn shifted(self, x: Residue, down: bool) -> [u32; PLACES]
+    fn shifted(self, x: Residue, down: bool) -> [Word; PLACES]
         requires { ⌜ wellFormedOf self ≡ true ⌝ }
         ensures { λ r. ⌜ r ≡ placed kind32 (movedByPowers kind32 down (x .0) (view self .sums)) ⌝ }
     {

@@ -10,6 +10,7 @@ use crate::power_sum::Answer;
 use crate::power_sum::Last;
 use crate::power_sum::PowerSumQuackU32;
 use modint32::PLACES;
+use modint32::Word;
 use sums32::places;
 
 impl PowerSumQuackU32 {
@@ -21,7 +22,7 @@ impl PowerSumQuackU32 {
         let threshold = lent::smaller(self.threshold, rhs.threshold);
         let mine = self.numbers();
         let others = rhs.numbers();
-        let mut sums = [0u32; PLACES];
+        let mut sums: [Word; PLACES] = [0; PLACES];
         places::put_differences(&mut sums[0..threshold], &mine, &others);
         let count = std::num::wrapping_sub_u32(self.count, rhs.count);
         power_sum::accepted(threshold, sums, count, Last::Nothing)

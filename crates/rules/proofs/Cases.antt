@@ -10,16 +10,20 @@ use Rattle.rules.specs.Sketch.{each, fresh, insert, remove, subtract, we
 use Rattle.rules.specs.Decode.{newestFirst, coefficients, evaluate, decode}
 use Rattle.rules.specs.Packet.{bytes, number, allBytes, allNumbers, packet, sketchIn}
 use Rattle.rules.specs.Calls as calls
-use Rattle.rules.specs.Cases.{allHold, inserts, downFrom, fieldCases, decodeCases, removeCases, packetCases, limitCases, refusalCases, handedCases, cases}
+use Rattle.rules.specs.Cases.{allHold, inserts, downFrom, fieldCases, decodeCases, removeCases, packetCases, limitCases, refusalCases, handedCases}
+use Rattle.rules.specs.Cases.{narrowFieldCases, narrowSketchCases, narrowPacketCases, onceCases, wordCases, cases}
+use Rattle.rules.specs.Words.{saidBy, wordsOf}
 
 -- The table has so many cases.
-pub number-of-cases : length cases ≡ 54
-unfolding cases fieldCases decodeCases removeCases packetCases limitCases refusalCases handedCases
+pub number-of-cases : length cases ≡ 93
+unfolding cases fieldCases decodeCases removeCases packetCases limitCases refusalCases handedCases narrowFieldCases narrowSketchCases narrowPacketCases
+    onceCases wordCases
 number-of-cases = refl
 
 -- Every case of the table gives what the requirements say.
 pub all-cases-hold : T (allHold cases)
-unfolding cases fieldCases decodeCases removeCases packetCases limitCases refusalCases handedCases inserts downFrom powerMod powerWithin every
+unfolding cases fieldCases decodeCases removeCases packetCases limitCases refusalCases handedCases narrowFieldCases narrowSketchCases narrowPacketCases
+    onceCases wordCases inserts downFrom powerMod powerWithin every
     multiplications multiplicationsWithin each fresh insert remove newestFirst coefficients evaluate decode bytes number allBytes allNumbers packet sketchIn
-    wellFormed subtract calls.make calls.subAssign calls.sub calls.coefficients calls.evaluate calls.decode calls.write calls.read
+    wellFormed subtract calls.make calls.subAssign calls.sub calls.coefficients calls.evaluate calls.evaluateOnce calls.decode calls.write calls.read saidBy wordsOf
 all-cases-hold = tt

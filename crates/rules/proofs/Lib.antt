@@ -9,6 +9,7 @@ pub mod Changing
 pub mod WellFormed
 pub mod Recurrence
 pub mod Evaluate
+pub mod OneReduction
 pub mod Newton
 pub mod Listing
 pub mod Outcomes
@@ -18,6 +19,8 @@ pub mod Packet
 pub mod Bytes
 pub mod Words
 pub mod Exported
+pub mod ExportedPackets
+pub mod ByValue
 pub mod Promise
 pub mod Run
 pub mod Determined

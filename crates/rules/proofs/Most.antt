@@ -91,10 +91,11 @@ module _ (K : Kind) where
       regrouped true b c = refl
       regrouped false b c = refl
 
-  -- The test of places, from the greatest of those in use and that of the others.
+  -- The test of places, from the test of those in use and the greatest of the others.
   pub places-split : (t used : ℕ) (l : List ℕ) → used ≡ min t (length l)
-      → every (placeFits K t) 0 l ≡ ltb (greatest (take used l)) (K .modulus) && eqb (greatest (drop used l)) 0
-  places-split t used l e = by-test (ltb t (length l)) refl
+      → every (placeFits K t) 0 l ≡ allBelow K (take used l) && eqb (greatest (drop used l)) 0
+  places-split t used l e =
+      by-test (ltb t (length l)) refl ∙ ap (λ (b : Bool). b && eqb (greatest (drop used l)) 0) (sym (every-most (K .modulus) (positive K) 0 (take used l)))
     where
       whole : every (placeFits K t) 0 l ≡ ltb (greatest (take t l)) (K .modulus) && eqb (greatest (drop t l)) 0
       whole = split t 0 t l (omega arith)

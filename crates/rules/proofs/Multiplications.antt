@@ -6,7 +6,7 @@ use native.Mathlib.Nat.{not-suc-le-zero, le-refl, div-add-mod', pow-suc, zero-lt
 use native.Mathlib.Decide.{le-ind}
 use native.Mathlib.Omega.{arith}
 use lib.Arith.{half-le}
-use lib.Count.{leadingZeros, leading-of-zero, leading-top, ones, ones-step, onesIn}
+use lib.Count.{leadingZeros, leading-of-zero, leading-top, ones, ones-le, ones-step, onesIn}
 use borrow.Author.Tests.{ne-eqb}
 use Rattle.rules.specs.Kind.{Kind, bits}
 use Rattle.rules.specs.Field.{multiplicationsWithin, multiplications, multiplicationsByDigits}
@@ -86,3 +86,22 @@ by-digits K (suc e) h = rw (ne-eqb (suc e) 0 (λ q. omega arith)) count
           leading-top (bits K) (suc e) (omega arith) h .1,
           some-digit-set (bits K) (suc e) (omega arith) h,
         )
+
+-- What is known of the digits of an exponent of w bits that is not 0.
+pub record Digits (w e : ℕ) : Type 0 where
+  pub some-digit : leadingZeros w e < w
+  pub some-set : 1 ≤ ones e
+  pub at-most : ones e ≤ w
+  pub told : multiplications e + 2 + leadingZeros w e ≡ w + ones e
+
+-- They are so for every such exponent.
+pub digits : (w e : ℕ) → (e ≡ 0 → ⊥) → e < 2 ^ w → Digits w e
+digits w e some l = record {
+  some-digit = omega (arith, leading-top w e positive l .1);
+  some-set = some-digit-set w e positive l;
+  at-most = ones-le w e l;
+  told = multiplications-and-zeros w e positive l;
+}
+  where
+    positive : 0 < e
+    positive = omega arith

@@ -17,7 +17,7 @@ use Rattle.rules.specs.Decode as decoding
 use Rattle.rules.specs.Sums.{roots}
 use Rattle.rules.specs.Packet.{packet, sumsAt, sumsIn, sumsOf, sketchIn}
 use Rattle.rules.specs.Calls.{Outcome, refused, given, unless, refusalOf, fitting, packed, make, insert, remove, subAssign, sub}
-use Rattle.rules.specs.Calls.{coefficients, evaluate, decode, writeWithHint, write, read}
+use Rattle.rules.specs.Calls.{coefficients, evaluate, evaluateOnce, decode, writeWithHint, write, read}
 use Rattle.rules.proofs.Recurrence.{coefficients-length}
 use Rattle.rules.proofs.Listing.{no-roots}
 
@@ -39,6 +39,20 @@ module _ (K : Kind) (cs : List ℕ) (c : ℕ) where
     pub evaluate-given : every (λ (k a : ℕ). ltb a (K .modulus)) 0 cs ≡ true → evaluate K cs c ≡ given (decoding.evaluate K cs c)
     unfolding evaluate
     evaluate-given e = rw (lt-ltb 0 (length cs) some, e)
+
+    -- More coefficients than the greatest threshold, with one reduction.
+    pub once-many : K .greatest < length cs → evaluateOnce K cs c ≡ refused 4
+    unfolding evaluateOnce
+    once-many l = rw (lt-ltb 0 (length cs) some, lt-leb (length cs) (K .greatest) l)
+
+  -- Up to as many, one reduction comes to what plain evaluation comes to.
+  pub once-plain : length cs ≤ K .greatest → evaluateOnce K cs c ≡ evaluate K cs c
+  unfolding evaluateOnce evaluate
+  once-plain l = rw (le-leb (length cs) (K .greatest) l) (twice (ltb 0 (length cs)) _)
+    where
+      twice : (some : Bool) (o : Outcome ℕ) → unless some 11 (unless some 11 o) ≡ unless some 11 o
+      twice true o = refl
+      twice false o = refl
 
 -- ---- coefficients and decoding
 

@@ -81,6 +81,10 @@ coefficients K ok s places =
 unfoldable pub evaluate : Kind → List ℕ → ℕ → Outcome ℕ
 evaluate K cs c = unless (ltb 0 (length cs)) 11 (unless (every (λ (k a : ℕ). ltb a (K .modulus)) 0 cs) 8 (given (decoding.evaluate K cs c)))
 
+-- Evaluate with one reduction of the whole sum: 11, then 4 where there are more coefficients than the greatest threshold, then what plain evaluation comes to.
+unfoldable pub evaluateOnce : Kind → List ℕ → ℕ → Outcome ℕ
+evaluateOnce K cs c = unless (ltb 0 (length cs)) 11 (unless (leb (length cs) (K .greatest)) 4 (evaluate K cs c))
+
 -- Decode, for a lent buffer of so many places: 12, then 4, then 5 where the places are fewer than the log's entries, with the count 0 too.
 unfoldable pub decode : Kind → Bool → Sketch → List ℕ → ℕ → Outcome (List ℕ)
 decode K ok s log places = unless ok 12 (unless (leb (s .count) (s .threshold)) 4 (unless (leb (length log) places) 5 (given (decoding.decode K s log))))

@@ -6,11 +6,12 @@ use mathlib.Core.List.{List, [], _∷_, _++_, map}
 use lib.Dec.{eqb}
 use lib.ListN.{length, replicate}
 use Rattle.numbers.specs.Power.{powerWithin, powerMod}
-use Rattle.rules.specs.Kind.{kind32}
+use Rattle.rules.specs.Kind.{Kind, kind16, kind32}
 use Rattle.rules.specs.Field.{residue, plus, minus, times, power, multiplicationsWithin, multiplications, inverse}
 use Rattle.rules.specs.Sketch.{Sketch, Last, nothing, code, fresh, insert, remove, wellFormed}
 use Rattle.rules.specs.Calls as calls
 use Rattle.rules.specs.Calls.{Outcome, refused, given, refusalOf, lengthOf, written, sketchOr}
+use Rattle.rules.specs.Words.{saidBy, wordsOf}
 
 -- A case: the numbers that the rules give, and the numbers that the requirements give.
 pub record Case : Type 0 where
@@ -46,9 +47,9 @@ fieldCases =
 -- ---- the sketch
 
 -- The codes of a list inserted one after the other.
-unfoldable pub inserts : Sketch → List ℕ → Sketch
-inserts s [] = s
-inserts s (c ∷ cs) = inserts (insert kind32 s c) cs
+unfoldable pub inserts : Kind → Sketch → List ℕ → Sketch
+inserts K s [] = s
+inserts K s (c ∷ cs) = inserts K (insert K s c) cs
 
 -- n, n - 1, .. 1.
 unfoldable pub downFrom : ℕ → List ℕ
@@ -74,11 +75,11 @@ reading (given s) = 0 ∷ s .threshold ∷ []
 unfoldable pub decodeCases : List Case
 unfolding inserts
 decodeCases =
-    let both = inserts (fresh 3) (10 ∷ 12 ∷ []) in
+    let both = inserts kind32 (fresh 3) (10 ∷ 12 ∷ []) in
     gives (both .sums) (22 ∷ 244 ∷ 2728 ∷ [])
     ∷ gives (listing (calls.coefficients kind32 true both 3)) (0 ∷ 4294967269 ∷ 120 ∷ [])
     ∷ gives (listing (calls.decode kind32 true both (1 ∷ 2 ∷ 10 ∷ 12 ∷ 10 ∷ []) 5)) (0 ∷ 10 ∷ 12 ∷ 10 ∷ [])
-    ∷ gives (listing (calls.decode kind32 true (inserts (fresh 3) (10 ∷ 10 ∷ [])) (1 ∷ 10 ∷ 10 ∷ 10 ∷ []) 4)) (0 ∷ 10 ∷ 10 ∷ 10 ∷ [])
+    ∷ gives (listing (calls.decode kind32 true (inserts kind32 (fresh 3) (10 ∷ 10 ∷ [])) (1 ∷ 10 ∷ 10 ∷ 10 ∷ []) 4)) (0 ∷ 10 ∷ 10 ∷ 10 ∷ [])
     ∷ []
 
 -- P9, P10, P11: removal from a fresh sketch, a count of 0 with sums, and the last code after a removal.
@@ -102,7 +103,7 @@ removeCases =
 unfoldable pub packetCases : List Case
 unfolding inserts
 packetCases =
-    gives (listing (calls.write kind32 true (inserts (fresh 2) (1 ∷ 10 ∷ [])) 16))
+    gives (listing (calls.write kind32 true (inserts kind32 (fresh 2) (1 ∷ 10 ∷ [])) 16))
     (0 ∷ 2 ∷ 0 ∷ 0 ∷ 0 ∷ 10 ∷ 0 ∷ 0 ∷ 0 ∷ 11 ∷ 0 ∷ 0 ∷ 0 ∷ 101 ∷ 0 ∷ 0 ∷ 0 ∷ [])
     ∷ gives (reading (calls.read kind32 (replicate 7 0))) (6 ∷ [])
     ∷ gives (reading (calls.read kind32 (replicate 8 0))) (7 ∷ [])
@@ -116,8 +117,8 @@ packetCases =
 unfoldable pub limitCases : List Case
 unfolding inserts downFrom
 limitCases =
-    gives (listing (calls.decode kind32 true (inserts (fresh 32) (downFrom 32)) (33 ∷ downFrom 32) 33)) (0 ∷ downFrom 32)
-    ∷ gives (listing (calls.decode kind32 true (inserts (fresh 32) (downFrom 33)) [] 0)) (4 ∷ [])
+    gives (listing (calls.decode kind32 true (inserts kind32 (fresh 32) (downFrom 32)) (33 ∷ downFrom 32) 33)) (0 ∷ downFrom 32)
+    ∷ gives (listing (calls.decode kind32 true (inserts kind32 (fresh 32) (downFrom 33)) [] 0)) (4 ∷ [])
     ∷ gives (reading (calls.read kind32 (replicate 8 0 ++ (250 ∷ 255 ∷ 255 ∷ 255 ∷ [])))) (0 ∷ 1 ∷ [])
     ∷ gives (reading (calls.read kind32 (replicate 8 0 ++ (251 ∷ 255 ∷ 255 ∷ 255 ∷ [])))) (8 ∷ [])
     ∷ []
@@ -131,7 +132,7 @@ valuing (given x) = 0 ∷ x ∷ []
 unfoldable pub refusalCases : List Case
 unfolding inserts
 refusalCases =
-    let both = inserts (fresh 3) (10 ∷ 12 ∷ []) in
+    let both = inserts kind32 (fresh 3) (10 ∷ 12 ∷ []) in
     gives (reading (calls.make kind32 0)) (1 ∷ [])
     ∷ gives (reading (calls.make kind32 33)) (1 ∷ [])
     ∷ gives (reading (calls.make kind32 32)) (0 ∷ 32 ∷ [])
@@ -163,7 +164,7 @@ leaving o buffer = lengthOf o ∷ written o buffer
 unfoldable pub handedCases : List Case
 unfolding inserts
 handedCases =
-    let both = inserts (fresh 3) (10 ∷ 12 ∷ []) in
+    let both = inserts kind32 (fresh 3) (10 ∷ 12 ∷ []) in
     let room : List ℕ = 91 ∷ 92 ∷ 93 ∷ 94 ∷ [] in
     gives (handing (calls.make kind32 0)) (1 ∷ 0 ∷ 0 ∷ 0 ∷ [])
     ∷ gives (handing (calls.make kind32 33)) (1 ∷ 0 ∷ 0 ∷ 0 ∷ [])
@@ -179,7 +180,84 @@ handedCases =
     ∷ gives (leaving (calls.write kind32 true both 4) room) (0 ∷ room)
     ∷ []
 
+-- ---- sixteen bits
+
+-- Codes of sixteen bits: residues, sums, differences, products and inverses, and powers with their multiplications.
+unfoldable pub narrowFieldCases : List Case
+unfolding powerMod powerWithin multiplications multiplicationsWithin
+narrowFieldCases =
+    gives (map (residue kind16) (65520 ∷ 65521 ∷ 65535 ∷ [])) (65520 ∷ 0 ∷ 14 ∷ [])
+    ∷ gives (plus kind16 65520 1 ∷ minus kind16 0 1 ∷ times kind16 65520 65520 ∷ []) (0 ∷ 65520 ∷ 1 ∷ [])
+    ∷ gives (map (inverse kind16) (2 ∷ 3 ∷ 4 ∷ [])) (32761 ∷ 43681 ∷ 49141 ∷ [])
+    ∷ gives (power kind16 2 10 ∷ map multiplications (65519 ∷ 65535 ∷ [])) (1024 ∷ 29 ∷ 30 ∷ [])
+    ∷ []
+
+-- Sketches of sixteen bits: sums, coefficients, what is listed of a log, the last code after a removal, the greatest count that decodes, and one above.
+unfoldable pub narrowSketchCases : List Case
+unfolding inserts downFrom
+narrowSketchCases =
+    let both = inserts kind16 (fresh 3) (10 ∷ 12 ∷ []) in
+    let large = insert kind16 (fresh 2) 65535 in
+    gives (both .sums) (22 ∷ 244 ∷ 2728 ∷ [])
+    ∷ gives (listing (calls.coefficients kind16 true both 3)) (0 ∷ 65499 ∷ 120 ∷ [])
+    ∷ gives (listing (calls.decode kind16 true both (1 ∷ 2 ∷ 10 ∷ 12 ∷ 10 ∷ []) 5)) (0 ∷ 10 ∷ 12 ∷ 10 ∷ [])
+    ∷ gives (large .sums) (14 ∷ 196 ∷ [])
+    ∷ gives (lastList (remove kind16 large 65535 .last)) (14 ∷ [])
+    ∷ gives (lastList (remove kind16 large 14 .last)) []
+    ∷ gives (remove kind16 (fresh 1) 1 .count ∷ remove kind16 (fresh 1) 1 .sums) (4294967295 ∷ 65520 ∷ [])
+    ∷ gives (listing (calls.decode kind16 true (inserts kind16 (fresh 32) (downFrom 32)) (33 ∷ downFrom 32) 33)) (0 ∷ downFrom 32)
+    ∷ gives (listing (calls.decode kind16 true (inserts kind16 (fresh 32) (downFrom 33)) [] 0)) (4 ∷ [])
+    ∷ gives (map (λ (t : ℕ). refusalOf (calls.make kind16 t)) (0 ∷ 1 ∷ 32 ∷ 33 ∷ [])) (1 ∷ 0 ∷ 0 ∷ 1 ∷ [])
+    ∷ gives (map (λ (sum : ℕ). cond (wellFormed kind16 1 (sum ∷ []) nothing) 0 12) (65520 ∷ 65521 ∷ [])) (0 ∷ 12 ∷ [])
+    ∷ []
+
+-- Packets of sixteen bits: the bytes, and how many sums packets of some lengths hold.
+unfoldable pub narrowPacketCases : List Case
+unfolding inserts
+narrowPacketCases =
+    gives (listing (calls.write kind16 true (inserts kind16 (fresh 2) (1 ∷ 10 ∷ [])) 10)) (0 ∷ 2 ∷ 0 ∷ 0 ∷ 0 ∷ 10 ∷ 0 ∷ 11 ∷ 0 ∷ 101 ∷ 0 ∷ [])
+    ∷ gives (listing (calls.write kind16 true (inserts kind16 (fresh 2) (1 ∷ 10 ∷ [])) 9)) (5 ∷ [])
+    ∷ gives (reading (calls.read kind16 (replicate 5 0))) (6 ∷ [])
+    ∷ gives (reading (calls.read kind16 (replicate 6 0))) (7 ∷ [])
+    ∷ gives (reading (calls.read kind16 (replicate 7 0))) (7 ∷ [])
+    ∷ gives (reading (calls.read kind16 (replicate 8 0))) (0 ∷ 1 ∷ [])
+    ∷ gives (reading (calls.read kind16 (replicate 71 0))) (0 ∷ 32 ∷ [])
+    ∷ gives (reading (calls.read kind16 (replicate 72 0))) (7 ∷ [])
+    ∷ gives (reading (calls.read kind16 (replicate 6 0 ++ (240 ∷ 255 ∷ [])))) (0 ∷ 1 ∷ [])
+    ∷ gives (reading (calls.read kind16 (replicate 6 0 ++ (241 ∷ 255 ∷ [])))) (8 ∷ [])
+    ∷ gives (handing (calls.read kind16 (1 ∷ 2 ∷ 3 ∷ 4 ∷ 255 ∷ 255 ∷ 5 ∷ 6 ∷ 7 ∷ []))) (0 ∷ 1 ∷ 67305985 ∷ 1 ∷ 14 ∷ [])
+    ∷ []
+
+-- Values, plain and with one reduction: equal up to 32 coefficients, and the refusals of each in their order.
+unfoldable pub onceCases : List Case
+unfolding downFrom
+onceCases =
+    gives (valuing (calls.evaluateOnce kind16 (65499 ∷ 120 ∷ []) 1)) (0 ∷ 99 ∷ [])
+    ∷ gives (valuing (calls.evaluateOnce kind16 (65499 ∷ 120 ∷ []) 10)) (0 ∷ 0 ∷ [])
+    ∷ gives (valuing (calls.evaluateOnce kind16 (replicate 32 65520) 65520)) (valuing (calls.evaluate kind16 (replicate 32 65520) 65520))
+    ∷ gives (valuing (calls.evaluateOnce kind16 (downFrom 32) 65535)) (valuing (calls.evaluate kind16 (downFrom 32) 65535))
+    ∷ gives (valuing (calls.evaluateOnce kind16 [] 1)) (11 ∷ [])
+    ∷ gives (valuing (calls.evaluateOnce kind16 (replicate 33 65521) 1)) (4 ∷ [])
+    ∷ gives (valuing (calls.evaluateOnce kind16 (65521 ∷ []) 1)) (8 ∷ [])
+    ∷ gives (valuing (calls.evaluate kind16 (replicate 33 0) 1)) (0 ∷ 1 ∷ [])
+    ∷ []
+
+-- A sketch in words, at each width: the threshold, the count in one word or in two, the lower first, the last code and the sums; and the sketch back.
+unfoldable pub wordCases : List Case
+wordCases =
+    let some : Sketch = record { threshold = 2; sums = 5 ∷ 6 ∷ []; count = 196610; last = code 7 } in
+    let none : Sketch = record { threshold = 2; sums = 5 ∷ 6 ∷ []; count = 196610; last = nothing } in
+    gives (wordsOf kind32 some) (2 ∷ 196610 ∷ 1 ∷ 7 ∷ 5 ∷ 6 ∷ [])
+    ∷ gives (wordsOf kind32 none) (2 ∷ 196610 ∷ 0 ∷ 0 ∷ 5 ∷ 6 ∷ [])
+    ∷ gives (wordsOf kind16 some) (2 ∷ 2 ∷ 3 ∷ 1 ∷ 7 ∷ 5 ∷ 6 ∷ [])
+    ∷ gives (wordsOf kind16 none) (2 ∷ 2 ∷ 3 ∷ 0 ∷ 0 ∷ 5 ∷ 6 ∷ [])
+    ∷ gives (saidBy kind16 (2 ∷ 2 ∷ 3 ∷ 1 ∷ 7 ∷ 5 ∷ 6 ∷ 9 ∷ []) .count ∷ saidBy kind16 (2 ∷ 2 ∷ 3 ∷ 1 ∷ 7 ∷ 5 ∷ 6 ∷ 9 ∷ []) .sums) (196610 ∷ 5 ∷ 6 ∷ [])
+    ∷ []
+
 -- The whole table.
 unfoldable pub cases : List Case
-unfolding fieldCases decodeCases removeCases packetCases limitCases refusalCases handedCases
-cases = fieldCases ++ (decodeCases ++ (removeCases ++ (packetCases ++ (limitCases ++ (refusalCases ++ handedCases)))))
+unfolding fieldCases decodeCases removeCases packetCases limitCases refusalCases handedCases narrowFieldCases narrowSketchCases narrowPacketCases onceCases
+    wordCases
+cases =
+    fieldCases ++ (decodeCases ++ (removeCases ++ (packetCases ++ (limitCases ++ (refusalCases ++ (handedCases
+    ++ (narrowFieldCases ++ (narrowSketchCases ++ (narrowPacketCases ++ (onceCases ++ wordCases))))))))))

@@ -3,8 +3,8 @@
 use Rattle.modint32.specs.Answers.{wrap}
 use Rattle.rules.specs.Sketch.{Sketch, codeOr0}
 use Rattle.rules.specs.Calls.{Outcome, refusalOf, sketchOr}
-use Rattle.sums32.specs.declared.packet.Heads.{Heads}
+use Rattle.sums32.specs.declared.packet.PacketHead.{PacketHead}
 
 -- What a packet says beside its sums; for a refusal, its number and zeros.
-abbrev pub headsOf : Outcome Sketch → Heads
-headsOf o = record { refusal = refusalOf o; threshold = sketchOr o .threshold; count = sketchOr o .count; last = wrap (codeOr0 (sketchOr o .last)) }
+abbrev pub packetHeadOf : Outcome Sketch → PacketHead
+packetHeadOf o = record { refusal = refusalOf o; threshold = sketchOr o .threshold; count = sketchOr o .count; last = wrap (codeOr0 (sketchOr o .last)) }

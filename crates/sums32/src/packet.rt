@@ -8,19 +8,20 @@ ghost use Rattle.rules.specs.Sums.{allBelow};
 ghost use Rattle.rules.specs.Packet.{number, allBytes, allNumbers, packet, packetLength};
 ghost use Rattle.rules.specs.Calls.{refused, refusalOf, fitting, written, readFor, sumsGiven};
 ghost use Rattle.lent.specs.Answers.{numbered};
-ghost use Rattle.sums32.specs.Answers.{headsOf};
+ghost use Rattle.sums32.specs.Answers.{packetHeadOf};
 use lent::COUNT_BYTES;
 use lent::Number;
 use modint32::CODE_BYTES;
 use modint32::Code;
 use modint32::PLACES;
 use modint32::Residue;
+use modint32::Word;
 
 // Where the sums begin.
 const SUMS_AT: usize = COUNT_BYTES + CODE_BYTES;
 
 // Numbers one after the other over the front of a part; the further bytes stay.
-fn put_numbers(part: &mut [u8], numbers: &[u32])
+fn put_numbers(part: &mut [u8], numbers: &[Word])
     requires { ⌜ length (now numbers) * kind32 .codeBytes ≤ length (now part) ⌝ }
     ensures { λ _. ⌜ now (part .exit) ≡ allBytes (kind32 .codeBytes) (now (numbers .entry))
         ++ drop (length (now (numbers .entry)) * kind32 .codeBytes) (now (part .entry)) ⌝ }
@@ -33,7 +34,7 @@ fn put_numbers(part: &mut [u8], numbers: &[u32])
 }
 
 // A packet over the front of a buffer that it fits into.
-fn put_parts(buf: &mut [u8], count: u32, last: Residue, sums: &[u32])
+fn put_parts(buf: &mut [u8], count: u32, last: Residue, sums: &[Word])
     requires { ⌜ packetLength kind32 (length (now sums)) ≤ length (now buf) ⌝ }
     ensures { λ _. ⌜ now (buf .exit) ≡ packet kind32 count (last .0) (now (sums .entry))
         ++ drop (packetLength kind32 (length (now (sums .entry)))) (now (buf .entry)) ⌝ }
@@ -44,7 +45,7 @@ fn put_parts(buf: &mut [u8], count: u32, last: Residue, sums: &[u32])
 }
 
 // A packet over the front of a buffer; 5 where the buffer is shorter.
-pub fn put_packet(buf: &mut [u8], count: u32, last: Residue, sums: &[u32]) -> Number
+pub fn put_packet(buf: &mut [u8], count: u32, last: Residue, sums: &[Word]) -> Number
     ensures answer { λ r. ⌜ r ≡ numbered (fitting (packet kind32 count (last .0) (now (sums .entry))) (length (now (buf .entry)))) ⌝ }
     ensures buffer { λ r. ⌜ now (buf .exit)
         ≡ written (fitting (packet kind32 count (last .0) (now (sums .entry))) (length (now (buf .entry)))) (now (buf .entry)) ⌝ }
@@ -61,12 +62,12 @@ pub fn put_packet(buf: &mut [u8], count: u32, last: Residue, sums: &[u32]) -> Nu
 }
 
 // The number in the bytes from a place on.
-fn number_at(part: &[u8], at: usize) -> u32
+fn number_at(part: &[u8], at: usize) -> Word
     requires { ⌜ at + kind32 .codeBytes ≤ length (now part) ⌝ }
     ensures { λ r. ⌜ r ≡ number (take (kind32 .codeBytes) (drop at (now (part .entry)))) ⌝ }
 {
     let end = at + CODE_BYTES;
-    lent::number_of(&part[at..end]) as u32
+    lent::number_of(&part[at..end]) as Word
 }
 
 // Whether each of the first n numbers of a part is below the prime.
@@ -83,7 +84,7 @@ fn sums_below(part: &[u8], n: usize) -> bool
 }
 
 // The numbers of a part, as many as there are places for them.
-fn put_sums(sums: &mut [u32], part: &[u8])
+fn put_sums(sums: &mut [Word], part: &[u8])
     requires { ⌜ length (now sums) * kind32 .codeBytes ≤ length (now part) ⌝ }
     ensures { λ _. ⌜ now (sums .exit) ≡ allNumbers (kind32 .codeBytes) (length (now (sums .entry))) (now (part .entry)) ⌝ }
 {
@@ -93,17 +94,17 @@ fn put_sums(sums: &mut [u32], part: &[u8])
 }
 
 // What a packet says beside its sums, or the number of a refusal.
-pub struct Heads {
+pub struct PacketHead {
     pub refusal: u32,
     pub threshold: usize,
     pub count: u32,
     pub last: Residue,
 }
 
-fn not_read(refusal: u32) -> Heads
-    ensures { λ r. ⌜ r ≡ headsOf (refused refusal) ⌝ }
+fn not_read(refusal: u32) -> PacketHead
+    ensures { λ r. ⌜ r ≡ packetHeadOf (refused refusal) ⌝ }
 {
-    Heads {
+    PacketHead {
         refusal,
         threshold: 0,
         count: 0,
@@ -132,8 +133,8 @@ fn refusal(buf: &[u8], places: usize) -> u32
 }
 
 // A packet read, its sums over the front of lent places; 5 where the places are fewer.
-pub fn read(buf: &[u8], sums: &mut [u32]) -> Heads
-    ensures answer { λ r. ⌜ r ≡ headsOf (readFor kind32 (now (buf .entry)) (length (now (sums .entry)))) ⌝ }
+pub fn read(buf: &[u8], sums: &mut [Word]) -> PacketHead
+    ensures answer { λ r. ⌜ r ≡ packetHeadOf (readFor kind32 (now (buf .entry)) (length (now (sums .entry)))) ⌝ }
     ensures sums { λ r. ⌜ now (sums .exit) ≡ written (sumsGiven (readFor kind32 (now (buf .entry)) (length (now (sums .entry))))) (now (sums .entry)) ⌝ }
 {
     let refused = refusal(buf, sums.len());
@@ -142,7 +143,7 @@ pub fn read(buf: &[u8], sums: &mut [u32]) -> Heads
     }
     let threshold = (buf.len() - SUMS_AT) / CODE_BYTES;
     put_sums(&mut sums[0..threshold], &buf[SUMS_AT..]);
-    Heads {
+    PacketHead {
         refusal: 0,
         threshold,
         count: lent::count_of(buf),

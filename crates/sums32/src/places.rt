@@ -5,31 +5,25 @@ ghost use lib.ListN.{length, drop, replicate};
 ghost use Rattle.numbers.specs.Table.{every};
 ghost use Rattle.rules.specs.Kind.{kind32};
 ghost use Rattle.rules.specs.Sketch.{placeFits};
-ghost use Rattle.rules.specs.Sums.{allBelow, common, copied, differences};
-use modint32::Residue;
-
-// Whether every number is below the prime.
-pub fn all_below(numbers: &[u32]) -> bool
-    ensures { λ r. ⌜ r ≡ allBelow kind32 (now (numbers .entry)) ⌝ }
-{
-    lent::greatest(numbers) < Residue::MODULUS
-}
+ghost use Rattle.rules.specs.Sums.{common, copied, differences};
+use modint32::Word;
+use modint32::slices;
 
 // Whether the places below the threshold hold residues, and those from it on 0.
-pub fn places_fit(places: &[u32], threshold: usize) -> bool
+pub fn places_fit(places: &[Word], threshold: usize) -> bool
     ensures { λ r. ⌜ r ≡ every (placeFits kind32 threshold) 0 (now (places .entry)) ⌝ }
 {
     let end = places.len();
     let used = lent::smaller(threshold, end);
-    if lent::greatest(&places[0..used]) < Residue::MODULUS {
-        lent::greatest(&places[used..]) == 0
+    if slices::all_below(&places[0..used]) {
+        slices::greatest(&places[used..]) == 0
     } else {
         false
     }
 }
 
 // Every place 0.
-pub fn clear(places: &mut [u32])
+pub fn clear(places: &mut [Word])
     ensures { λ _. ⌜ now (places .exit) ≡ replicate (length (now (places .entry))) 0 ⌝ }
 {
     for k in 0..places.len() {
@@ -38,7 +32,7 @@ pub fn clear(places: &mut [u32])
 }
 
 // The differences of the sums that both have, over the front of lent places.
-pub fn put_differences(places: &mut [u32], sums: &[u32], others: &[u32])
+pub fn put_differences(places: &mut [Word], sums: &[Word], others: &[Word])
     ensures { λ _. ⌜ now (places .exit) ≡ copied (now (places .entry)) (differences kind32 (now (sums .entry)) (now (others .entry))) ⌝ }
 {
     let end = places.len();
@@ -50,7 +44,7 @@ pub fn put_differences(places: &mut [u32], sums: &[u32], others: &[u32])
 }
 
 // Each sum that both have, down by the other's; further ones stay.
-pub fn subtract(sums: &mut [u32], others: &[u32])
+pub fn subtract(sums: &mut [Word], others: &[Word])
     ensures { λ _. ⌜ now (sums .exit) ≡ differences kind32 (now (sums .entry)) (now (others .entry))
         ++ drop (common (now (sums .entry)) (now (others .entry))) (now (sums .entry)) ⌝ }
 {

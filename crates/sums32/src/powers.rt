@@ -9,35 +9,36 @@ ghost use Rattle.rules.specs.Sums.{signed, movedByPowers, raisedAt};
 ghost use Rattle.rules.proofs.Changing.{Reaches};
 ghost use Rattle.sums32.specs.Chains.{fourAt, timesAt};
 use modint32::Residue;
+use modint32::Word;
 
 // Four numbers side by side, so that no product waits for the one before it.
 struct Four {
-    v0: u32,
-    v1: u32,
-    v2: u32,
-    v3: u32,
+    v0: Word,
+    v1: Word,
+    v2: Word,
+    v3: Word,
 }
 
 // How many sums have moved, and the power by which the last of them did.
 struct Reached {
     place: usize,
-    power: u32,
+    power: Word,
 }
 
-fn signed(y: u32, down: bool) -> u32
+fn signed(y: Word, down: bool) -> Word
     ensures { λ r. ⌜ r ≡ signed kind32 down y ⌝ }
 {
     if down { modint32::minus(0, y) } else { y }
 }
 
-fn raise(sums: &mut [u32], k: usize, y: u32)
+fn raise(sums: &mut [Word], k: usize, y: Word)
     requires { ⌜ k < length (now sums) ⌝ }
     ensures { λ _. ⌜ now (sums .exit) ≡ raisedAt kind32 (now (sums .entry)) k y ⌝ }
 {
     sums[k] = modint32::plus(sums[k], y);
 }
 
-fn raise_four(sums: &mut [u32], k: usize, y: Four)
+fn raise_four(sums: &mut [Word], k: usize, y: Four)
     requires { ⌜ k + 4 ≤ length (now sums) ⌝ }
     ensures { λ _. ⌜ now (sums .exit) ≡ fourAt (now (sums .entry)) k y ⌝ }
 {
@@ -47,7 +48,7 @@ fn raise_four(sums: &mut [u32], k: usize, y: Four)
     raise(sums, k + 3, y.v3);
 }
 
-fn times_four(y: Four, z: u32) -> Four
+fn times_four(y: Four, z: Word) -> Four
     ensures { λ r. ⌜ r ≡ timesAt y z ⌝ }
 {
     Four {
@@ -59,7 +60,7 @@ fn times_four(y: Four, z: u32) -> Four
 }
 
 // The first sum moves by x itself.
-fn first_sum(sums: &mut [u32], x: u32, down: bool) -> Reached
+fn first_sum(sums: &mut [Word], x: Word, down: bool) -> Reached
     requires { ⌜ 0 < length (now sums) ⌝ }
     ensures { λ r. ⌜ Reaches kind32 down x (now (sums .entry)) (now (sums .exit)) (r .place) (r .power) ⌝ }
 {
@@ -69,7 +70,7 @@ fn first_sum(sums: &mut [u32], x: u32, down: bool) -> Reached
 }
 
 // Four sums at a time move, as long as there are four: each power is the one four places before times the fourth power.
-fn by_fours(sums: &mut [u32], x: u32, down: bool) -> Reached
+fn by_fours(sums: &mut [Word], x: Word, down: bool) -> Reached
     requires { ⌜ 4 ≤ length (now sums) ⌝ }
     ensures { λ r. ⌜ Reaches kind32 down x (now (sums .entry)) (now (sums .exit)) (r .place) (r .power) ⌝ }
 {
@@ -97,7 +98,7 @@ fn by_fours(sums: &mut [u32], x: u32, down: bool) -> Reached
 }
 
 // The further sums move one by one: each power is the one before times x.
-fn one_by_one(sums: &mut [u32], from: Reached, x: u32)
+fn one_by_one(sums: &mut [Word], from: Reached, x: Word)
     ensures { λ _. ⌜ ((down : Bool) (before : List ℕ) → Reaches kind32 down x before (now (sums .entry)) (from .place) (from .power)
         → now (sums .exit) ≡ movedByPowers kind32 down x before) ⌝ }
 {
@@ -112,7 +113,7 @@ fn one_by_one(sums: &mut [u32], from: Reached, x: u32)
 }
 
 // Sum k, counted from 1, moves by the k-th power of x, with one product less than there are sums.
-pub fn shift_by_powers(sums: &mut [u32], x: Residue, down: bool)
+pub fn shift_by_powers(sums: &mut [Word], x: Residue, down: bool)
     ensures { λ _. ⌜ now (sums .exit) ≡ movedByPowers kind32 down (x .0) (now (sums .entry)) ⌝ }
 {
     let first = x.value();

@@ -1,12 +1,13 @@
--- A product of two numbers of 32 bits fits in 64.
+-- A product of two words fits twice the bits.
 -- Assumes nothing.
 use borrow.Author.Needs.{needs}
 use Rattle.numbers.proofs.Product.{product-below}
+use Rattle.rules.specs.Kind.{kind32, bits}
 use Rattle.modint32.proofs.times.Statement.{statement}
 use Rattle.modint32.proofs.times.Tie as tie
 
 pub times-spec : {M : Type 1} → statement M
 times-spec =
     tie.close
-    (tie.spec (λ c. record { fits = product-below 32 (search needs) (search needs) }) (λ c. search needs) (λ c. search needs) (λ c. search needs)
+    (tie.spec (λ c. record { fits = product-below (bits kind32) (search needs) (search needs) }) (λ c. search needs) (λ c. search needs) (λ c. search needs)
     (λ c. search needs))

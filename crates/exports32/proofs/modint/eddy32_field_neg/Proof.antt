@@ -6,4 +6,4 @@ use Rattle.exports32.proofs.modint.eddy32_field_neg.Statement.{statemen
 use Rattle.exports32.proofs.modint.eddy32_field_neg.Tie as tie
 
 pub eddy32-field-neg-spec : {M : Type 1} → statement M
-eddy32-field-neg-spec = tie.close (tie.spec (λ c κs. tt) (λ c κs. tt) (λ c. c .value .ensures ∙ ap val (c .before .neg .ensures)))
+eddy32-field-neg-spec = tie.close (tie.spec (λ c κs. tt) (λ c κs. tt) (λ c. c .answered .ensures ∙ ap val (c .before .neg .ensures)))

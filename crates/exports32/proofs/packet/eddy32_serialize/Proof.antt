@@ -7,7 +7,7 @@ use lib.ListN.{length}
 use borrow.Author.Needs.{needs}
 use Rattle.rules.specs.Kind.{kind32}
 use Rattle.rules.specs.Calls.{Outcome, written}
-use Rattle.rules.proofs.Exported.{all-sums}
+use Rattle.rules.proofs.ExportedPackets.{all-sums}
 use Rattle.lent.specs.Answers.{numbered}
 use Rattle.exports32.proofs.packet.eddy32_serialize.Statement.{statement}
 use Rattle.exports32.proofs.packet.eddy32_serialize.Tie as tie

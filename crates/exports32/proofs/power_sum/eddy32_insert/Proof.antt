@@ -7,6 +7,7 @@ use native.Mathlib.Omega.{arith}
 use borrow.Author.Needs.{needs}
 use Rattle.modint32.specs.Answers.{val}
 use Rattle.rules.specs.Kind.{kind32, counts}
+use Rattle.rules.specs.Words.{headWords}
 use Rattle.exports32.proofs.Heads.{Heads, heads, misfits}
 use Rattle.rules.proofs.Exported.{as-many, refuses, insert-misfit, insert-stores}
 use Rattle.exports32.proofs.power_sum.eddy32_insert.Statement.{statement}
@@ -30,7 +31,7 @@ end : tie.Need-part-shift-by-powers-end
 end c =
     let p = c .before .before in
     let e = p .before .before .before .before .before .before in
-    omega (arith, head e .enough, as-many (start e .args .s .now) _ _ _ _ (p .put-head .ensures))
+    omega (arith, head e .enough, as-many kind32 (start e .args .s .now) _ _ _ _ (p .put-head .ensures))
 
 returns-2 : tie.Need-returns-2
 returns-2 c =
@@ -41,7 +42,7 @@ returns-2 c =
     let x = n .before .before in
     let e = x .before in
     let h = head e in
-    insert-stores kind32 (start e .args .s .now) (h .ok) (start e .args .code) (h .threshold) (add-sub-cancel-left 4 _)
+    insert-stores kind32 (start e .args .s .now) (h .ok) (start e .args .code) (h .threshold) (add-sub-cancel-left (headWords kind32) _)
     (n .wrapping-add-u32 .ensures ∙ ap (λ (k : ℕ). (k + 1) % counts) (h .count)) refl (v .value .ensures ∙ ap val (x .reduce .ensures)) (p .put-head .ensures)
     (ap val (x .reduce .ensures)) (m .shift-by-powers .ensures)
 

@@ -11,6 +11,7 @@ use Rattle.modint32.specs.Answers.{val}
 use Rattle.rules.specs.Kind.{kind32, counts}
 use Rattle.rules.specs.Field.{difference}
 use Rattle.rules.proofs.Field.{count-down}
+use Rattle.rules.specs.Words.{headWords}
 use Rattle.exports32.proofs.Heads.{Heads, heads, misfits}
 use Rattle.rules.proofs.Exported.{as-many, refuses, remove-misfit, remove-stores}
 use Rattle.exports32.proofs.power_sum.eddy32_remove.Statement.{statement}
@@ -34,7 +35,7 @@ end : tie.Need-part-shift-by-powers-end
 end c =
     let p = c .before .before in
     let e = p .before .before .before .before .before .before .before in
-    omega (arith, head e .enough, as-many (start e .args .s .now) _ _ _ _ (p .put-head .ensures))
+    omega (arith, head e .enough, as-many kind32 (start e .args .s .now) _ _ _ _ (p .put-head .ensures))
 
 returns-2 : tie.Need-returns-2
 returns-2 c =
@@ -47,7 +48,7 @@ returns-2 c =
     let e = x .before in
     let h = head e in
     let code = start e .args .code in
-    remove-stores kind32 (start e .args .s .now) (h .ok) code (h .threshold) (add-sub-cancel-left 4 _)
+    remove-stores kind32 (start e .args .s .now) (h .ok) code (h .threshold) (add-sub-cancel-left (headWords kind32) _)
     (count-down _ 1 _ (n .wrapping-sub-u32 .ensures) (search needs) (search needs) ∙ ap (λ (k : ℕ). difference counts k 1) (h .count))
     (f .unless-last .ensures ∙ ap₂ (λ (y z : ℕ). cond (eqb y code) 0 z) (h .last) (h .has))
     (l .unless-last2 .ensures ∙ ap (λ (y : ℕ). cond (eqb y code) 0 y) (h .last)) (p .put-head .ensures)

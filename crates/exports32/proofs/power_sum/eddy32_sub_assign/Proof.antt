@@ -7,6 +7,7 @@ use borrow.Author.Needs.{needs}
 use Rattle.rules.specs.Kind.{kind32, counts}
 use Rattle.rules.specs.Field.{difference}
 use Rattle.rules.proofs.Field.{count-down}
+use Rattle.rules.specs.Words.{headWords}
 use Rattle.exports32.proofs.Heads.{Heads, heads, misfits}
 use Rattle.rules.proofs.Exported.{as-many, refuses, sub-assign-misfit, sub-assign-other, sub-assign-stores}
 use Rattle.exports32.proofs.power_sum.eddy32_sub_assign.Statement.{statement}
@@ -51,7 +52,7 @@ end c =
     let p = c .before .before in
     let f = p .before .before .before .before in
     let e = f .before .before .before .before .before .before in
-    omega (arith, head e .enough, as-many (start e .args .s .now) _ _ _ _ (p .put-head .ensures))
+    omega (arith, head e .enough, as-many kind32 (start e .args .s .now) _ _ _ _ (p .put-head .ensures))
 
 end-2 : tie.Need-part-subtract-end-2
 end-2 c =
@@ -71,7 +72,7 @@ returns-4 c =
     let g = other o in
     let a = start e .args in
     sub-assign-stores kind32 (a .s .now) (a .rhs .now) (h .ok) (g .ok) (sym (h .threshold) ∙ f .if3 .left ∙ g .threshold) (h .threshold)
-    (add-sub-cancel-left 4 _)
+    (add-sub-cancel-left (headWords kind32) _)
     (count-down _ _ _ (n .wrapping-sub-u32 .ensures) (search needs) (search needs) ∙ ap₂ (difference counts) (h .count) (g .count)) refl refl
     (p .put-head .ensures) (m .subtract .ensures)
 

@@ -21,7 +21,7 @@ module _ (c : tie.Else1) where
   fit : wordsFit kind32 given ≡ true
   fit = passed (c .before .words-fit .ensures) (c .if1 .left)
 
-  four : headWords ≤ length given
+  four : headWords kind32 ≤ length given
   four = omega (arith, fit-parts kind32 given fit .enough)
 
 returns : tie.Need-returns
@@ -30,11 +30,14 @@ returns c = rw (failed (c .before .words-fit .ensures) (c .if1 .taken))
 
 returns-2 : tie.Need-returns-2
 unfolding headIn
-returns-2 c = rw (fit (c .before .before .before .before))
+returns-2 c =
+    let n = c .before .before in
+    let e = n .before .before in
+    rw (n .count-in .ensures, fit e)
 
 pub head-of-spec : {M : Type 1} → statement M
 head-of-spec =
     tie.close
     (tie.spec (λ c κs. tt) returns (λ c. omega (arith, four (c .before))) (λ c. omega (arith, c .shared-slice-known2 .given 0))
-    (λ c. omega (arith, four (c .before .before))) (λ c. omega (arith, four (c .before .before .before)))
+    (λ c κs. four (c .before)) (λ c. omega (arith, four (c .before .before .before)))
     (λ c. omega (arith, four (c .before .before .before .before))) returns-2)

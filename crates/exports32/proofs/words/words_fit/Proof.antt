@@ -4,11 +4,13 @@ use mathlib.Core.Path.{_≡_, sym, _∙_}
 use mathlib.Core.Bool.{true}
 use native.Mathlib.Omega.{arith}
 use native.Mathlib.Nat.{add-sub-cancel-left}
+use lib.Dec.{lit≤}
 use lib.ListN.{getD}
 use borrow.Author.Needs.{needs}
 use Rattle.rules.specs.Kind.{kind32}
 use Rattle.rules.proofs.Tests.{passed, failed}
-use Rattle.rules.proofs.Words.{headFits, words-short, words-misfit, words-by-sums}
+use Rattle.rules.proofs.Words.{count-below, headFits, words-short, words-misfit, words-by-sums}
+use Rattle.rules.specs.Words.{headWords}
 use Rattle.exports32.proofs.words.words_fit.Statement.{statement}
 use Rattle.exports32.proofs.words.words_fit.Tie as tie
 
@@ -35,8 +37,8 @@ returns-4 c =
     let k = e .before in
     let h = k .before in
     let w = h .before .before .before .before .before .before .before .args .words .now in
-    let below = rw (add-sub-cancel-left 4 (getD w 0 0)) at (c .all-below .ensures) in
-    below ∙ sym (words-by-sums kind32 w (fits h) (e .if3 .left) (k .shared-slice-known5 .given 1 .fits))
+    let below = rw (add-sub-cancel-left (headWords kind32) (getD w 0 0)) at (c .all-below .ensures) in
+    below ∙ sym (words-by-sums kind32 w (fits h) (e .if3 .left) (count-below kind32 w (λ j. k .shared-slice-known5 .given j .fits) (lit≤ tt)))
 
 pub words-fit-spec : {M : Type 1} → statement M
 words-fit-spec =

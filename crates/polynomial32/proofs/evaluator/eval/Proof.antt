@@ -20,7 +20,7 @@ returns-2 c =
     let a = b .before .before .before .args in
     rw (
       c .not-evaluated2 .ensures,
-      evaluate-large kind32 (a .coeffs .now) (a .x .0) (omega (arith, b .before .if1 .left)) (failed (b .coefficients-fit .ensures) (c .before .if2 .taken)),
+      evaluate-large kind32 (a .coeffs .now) (a .x .0) (omega (arith, b .before .if1 .left)) (failed (b .all-below .ensures) (c .before .if2 .taken)),
     )
 
 returns-3 : tie.Need-returns-3
@@ -32,7 +32,7 @@ returns-3 c =
       c .before .reduce .ensures,
       evaluate-residue kind32 (a .coeffs .now) (a .x .0),
       evaluate-given kind32 (a .coeffs .now) (a .x .0) (omega (arith, b .before .if1 .left))
-          (passed (b .coefficients-fit .ensures) (c .before .before .if2 .left)),
+          (passed (b .all-below .ensures) (c .before .before .if2 .left)),
     )
 
 pub eval-spec : {M : Type 1} → statement M

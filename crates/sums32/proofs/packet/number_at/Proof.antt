@@ -7,16 +7,18 @@ use lib.ListN.{length, take, drop}
 use lib.Seq.{take-all}
 use borrow.Author.Needs.{needs}
 use borrow.Rule.Slice.PartMut.{mid-len}
+use Rattle.rules.specs.Kind.{kind32}
 use Rattle.rules.specs.Packet.{number}
 use Rattle.sums32.proofs.packet.number_at.Statement.{statement}
 use Rattle.sums32.proofs.packet.number_at.Tie as tie
 
 -- How long the part is.
-size : (c : tie.After-number-of-arg) → let a = c .before .before .args in length (take (a .at + 4 - a .at) (drop (a .at) (a .part .now))) ≡ 4
+size : (c : tie.After-number-of-arg) → let a = c .before .before .args in
+    length (take (a .at + kind32 .codeBytes - a .at) (drop (a .at) (a .part .now))) ≡ kind32 .codeBytes
 size c =
     let a = c .before .before .args in
-    let four : a .at + 4 - a .at ≡ 4 = omega arith in
-    mid-len (a .at) (a .at + 4) (a .part .now) (c .before .before .pre) ∙ four
+    let wide : a .at + kind32 .codeBytes - a .at ≡ kind32 .codeBytes = omega arith in
+    mid-len (a .at) (a .at + kind32 .codeBytes) (a .part .now) (c .before .before .pre) ∙ wide
 
 cast-result : tie.Need-cast-result
 cast-result c = let fits = rw (size (c .before)) at (c .number-of .ensures .1) in record { fits = fits }
@@ -24,10 +26,10 @@ cast-result c = let fits = rw (size (c .before)) at (c .number-of .ensures .1) i
 returns : tie.Need-returns
 returns c =
     let a = c .before .before .before .args in
-    let four : a .at + 4 - a .at ≡ 4 = omega arith in
-    let part = take (a .at + 4 - a .at) (drop (a .at) (a .part .now)) in
+    let wide : a .at + kind32 .codeBytes - a .at ≡ kind32 .codeBytes = omega arith in
+    let part = take (a .at + kind32 .codeBytes - a .at) (drop (a .at) (a .part .now)) in
     let all : take 8 part ≡ part = take-all 8 part (omega (arith, size (c .before))) in
-    c .number-of .ensures .0 ∙ ap number (all ∙ rw four)
+    c .number-of .ensures .0 ∙ ap number (all ∙ rw wide)
 
 pub number-at-spec : {M : Type 1} → statement M
 number-at-spec = tie.close (tie.spec (λ c. search needs) (λ c. search needs) (λ c. search needs) (λ c. search needs) (λ c κs. tt) cast-result returns)

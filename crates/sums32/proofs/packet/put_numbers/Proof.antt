@@ -22,8 +22,9 @@ loop-again c =
     let p = c .before .before in
     let k = p .before .before .before in
     let i = k .before .loop .inv in
-    let size : k .before .loop .k * 4 + 4 - k .before .loop .k * 4 ≡ 4 = omega arith in
-    let long = mid-len (k .before .loop .k * 4) (k .before .loop .k * 4 + 4) (k .before .loop .part) (putting-room i (k .loop-test .taken)) in
+    let size : k .before .loop .k * kind32 .codeBytes + kind32 .codeBytes - k .before .loop .k * kind32 .codeBytes ≡ kind32 .codeBytes = omega arith in
+    let long = mid-len (k .before .loop .k * kind32 .codeBytes) (k .before .loop .k * kind32 .codeBytes + kind32 .codeBytes) (k .before .loop .part)
+    (putting-room i (k .loop-test .taken)) in
     putting-turn i (k .loop-test .taken) refl (long ∙ size) size (p .put-number .ensures)
 
 pub put-numbers-spec : {M : Type 1} → statement M

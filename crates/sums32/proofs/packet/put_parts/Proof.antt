@@ -1,6 +1,6 @@
 -- The count, the last code and the sums, one behind the other.
 -- Assumes nothing.
-use Prim.Native.Nat.{ℕ, _+_, _-_, _*_, _≤_, zero-le}
+use Prim.Native.Nat.{ℕ, _+_, _-_, _≤_, zero-le}
 use mathlib.Core.Path.{refl, _∙_, ap, ap₂}
 use mathlib.Core.List.{List, [], _++_}
 use native.Mathlib.Omega.{arith}
@@ -8,8 +8,8 @@ use lib.ListN.{length}
 use lib.Seq.{length-take-le}
 use borrow.Author.Needs.{needs}
 use borrow.Rule.Slice.PartMut.{putMid, mid-len}
-use Rattle.rules.specs.Kind.{kind32}
-use Rattle.rules.specs.Packet.{bytes, allBytes}
+use Rattle.rules.specs.Kind.{kind32, countBytes}
+use Rattle.rules.specs.Packet.{bytes, allBytes, sumsAt, packetLength}
 use Rattle.rules.proofs.Packet.{bytes-length, all-bytes-length}
 use Rattle.rules.proofs.Bytes.{Front, front-part, front-more, front-length, front-packet}
 use Rattle.sums32.proofs.packet.put_parts.Statement.{statement}
@@ -20,45 +20,49 @@ module _ (c : tie.After-slice-known2) where
   start = c .before .before .before .before .before .before
 
   -- The count stands at the front.
-  count-put : Front 4 (bytes 4 (start .args .count)) (start .args .buf .now) (putMid 0 4 (start .args .buf .now) (c .before .before .put-number .last .0))
+  count-put : Front countBytes (bytes countBytes (start .args .count)) (start .args .buf .now)
+      (putMid 0 countBytes (start .args .buf .now) (c .before .before .put-number .last .0))
   count-put =
       let room = start .pre in
       let buf = start .args .buf .now in
       let n = start .args .count in
-      front-part {p = []} (bytes 4 n) (record { size = refl; room = zero-le; is = refl }) (bytes-length 4 n) refl (omega (arith, room))
-      (c .before .before .put-number .ensures ∙ ap (λ (w : ℕ). bytes w n) (length-take-le 4 buf (omega (arith, room))))
+      front-part {p = []} (bytes countBytes n) (record { size = refl; room = zero-le; is = refl }) (bytes-length countBytes n) refl (omega (arith, room))
+      (c .before .before .put-number .ensures ∙ ap (λ (w : ℕ). bytes w n) (length-take-le countBytes buf (omega (arith, room))))
 
 module _ (c : tie.After-slice-known3) where
   abbrev begun : tie.After-slice-known2
   begun = c .before .before .before .before .before
 
   abbrev counted : List ℕ
-  counted = putMid 0 4 (start begun .args .buf .now) (begun .before .before .put-number .last .0)
+  counted = putMid 0 countBytes (start begun .args .buf .now) (begun .before .before .put-number .last .0)
 
   abbrev coded : List ℕ
-  coded = putMid 4 4 counted (c .before .before .put-number2 .last .0)
+  coded = putMid countBytes (kind32 .codeBytes) counted (c .before .before .put-number2 .last .0)
 
   -- The last code stands behind it.
   last-put : let a = start begun .args in
-      Front 8 (bytes 4 (a .count) ++ bytes 4 (a .last .0)) (a .buf .now) coded
+      Front (sumsAt kind32) (bytes countBytes (a .count) ++ bytes (kind32 .codeBytes) (a .last .0)) (a .buf .now) coded
   last-put =
       let s = start begun in
       let x = s .args .last .0 in
-      front-part (bytes 4 x) (count-put begun) (bytes-length 4 x) refl (omega (arith, s .pre))
+      front-part (bytes (kind32 .codeBytes) x) (count-put begun) (bytes-length (kind32 .codeBytes) x) refl (omega (arith, s .pre))
       (c .before .before .put-number2 .ensures
-      ∙ ap₂ bytes (mid-len 4 8 counted (omega (arith, front-length (count-put begun), s .pre))) (c .before .before .before .value .ensures))
+      ∙ ap₂ bytes (mid-len countBytes (sumsAt kind32) counted (omega (arith, front-length (count-put begun), s .pre)))
+      (c .before .before .before .value .ensures))
 
-  long : 8 + length (start begun .args .sums .now) * 4 ≤ length coded
+  long : packetLength kind32 (length (start begun .args .sums .now)) ≤ length coded
   long = omega (arith, front-length last-put, start begun .pre)
 
 -- The sums stand behind both.
 sums-put : (c : tie.After-slice-known4) → let l = c .before .before .before .before in let a = start (begun l) .args in
-    Front (8 + length (a .sums .now) * 4) ((bytes 4 (a .count) ++ bytes 4 (a .last .0)) ++ allBytes 4 (a .sums .now)) (a .buf .now)
-    (putMid 8 (length (coded l) - 8) (coded l) (c .before .before .put-numbers .last .0))
+    Front (packetLength kind32 (length (a .sums .now)))
+    ((bytes countBytes (a .count) ++ bytes (kind32 .codeBytes) (a .last .0)) ++ allBytes (kind32 .codeBytes) (a .sums .now)) (a .buf .now)
+    (putMid (sumsAt kind32) (length (coded l) - sumsAt kind32) (coded l) (c .before .before .put-numbers .last .0))
 sums-put c =
     let l = c .before .before .before .before in
     let s = start (begun l) in
-    front-more (allBytes 4 (s .args .sums .now)) (last-put l) (all-bytes-length 4 (s .args .sums .now)) (s .pre) (c .before .before .put-numbers .ensures)
+    front-more (allBytes (kind32 .codeBytes) (s .args .sums .now)) (last-put l) (all-bytes-length (kind32 .codeBytes) (s .args .sums .now)) (s .pre)
+    (c .before .before .put-numbers .ensures)
 
 returns : tie.Need-returns
 returns c =
@@ -71,5 +75,5 @@ put-parts-spec =
     (tie.spec (λ c. search needs) (λ c. search needs) (λ c. let room = c .before .before .pre in omega (arith, room)) (λ c κs. tt) (λ c. search needs)
     (λ c. search needs) (λ c. omega (arith, front-length (count-put c), start c .pre)) (λ c κs. tt) (λ c. search needs) (λ c κs. tt)
     (λ c. omega (arith, long c)) (λ c. omega (arith, long c)) (λ c. search needs)
-    (λ c κs. omega (arith, long (c .before), mid-len 8 (length (coded (c .before))) (coded (c .before)) (omega arith)))
+    (λ c κs. omega (arith, long (c .before), mid-len (sumsAt kind32) (length (coded (c .before))) (coded (c .before)) (omega arith)))
     (λ c. front-length (sums-put c)) returns)

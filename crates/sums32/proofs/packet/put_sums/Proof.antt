@@ -26,22 +26,23 @@ abbrev μ-loop : tie.MeasureT-loop
 μ-loop sums₀ part k₀ k-end sums k = length sums₀ - k
 
 -- The number of this turn lies in the part.
-within : (c : tie.In-loop Inv-loop μ-loop) → let a = c .before .before .before .before .args in c .before .loop .k * 4 + 4 ≤ length (a .part .now)
+within : (c : tie.In-loop Inv-loop μ-loop) → let a = c .before .before .before .before .args in
+    c .before .loop .k * kind32 .codeBytes + kind32 .codeBytes ≤ length (a .part .now)
 within c =
     let s = c .before .before .before .before in
-    omega (arith, place-within 4 (c .before .loop .k) (length (s .args .sums .now)) (c .loop-test .taken), s .pre)
+    omega (arith, place-within (kind32 .codeBytes) (c .before .loop .k) (length (s .args .sums .now)) (c .loop-test .taken), s .pre)
 
 loop-again : tie.Need-loop-again Inv-loop μ-loop
 loop-again c =
     let k = c .before in
     let a = k .before .before .before .before .args in
-    let here = all-numbers-at 4 (length (a .sums .now)) (a .part .now) (k .before .loop .k) (k .loop-test .taken) in
+    let here = all-numbers-at (kind32 .codeBytes) (length (a .sums .now)) (a .part .now) (k .before .loop .k) (k .loop-test .taken) in
     mapping-turn 0 0 (k .before .loop .inv) (k .loop-test .taken) (c .number-at .ensures ∙ sym here)
 
 returns : tie.Need-returns Inv-loop μ-loop
 returns c =
     let a = c .before .before .before .before .args in
-    let long = all-numbers-length 4 (length (a .sums .now)) (a .part .now) in
+    let long = all-numbers-length (kind32 .codeBytes) (length (a .sums .now)) (a .part .now) in
     let all = take-all (length (a .sums .now)) (said (a .sums .now) (a .part .now)) (omega (arith, long)) in
     let none = drop-of-length-le (a .sums .now) {i = length (a .sums .now)} (omega arith) in
     copying-done (c .before .loop .inv) (c .loop-test .left) ∙ rw (all, none) (append-nil (said (a .sums .now) (a .part .now)))
@@ -50,7 +51,8 @@ pub put-sums-spec : {M : Type 1} → statement M
 put-sums-spec =
     tie.close
     (tie.spec Inv-loop μ-loop
-    (λ c. let a = c .before .before .args in mapping-start (omega (arith, all-numbers-length 4 (length (a .sums .now)) (a .part .now))) (omega arith))
+    (λ c. let a = c .before .before .args in mapping-start (omega (arith, all-numbers-length (kind32 .codeBytes) (length (a .sums .now)) (a .part .now)))
+    (omega arith))
     (λ c. record { fits = omega (arith, within c, c .before .before .before .before .good .1 .0) }) (λ c κs. within c) (λ c. search needs)
     (λ c. omega (arith, c .before .before .loop .inv .long, c .before .loop-test .taken)) (λ c. search needs) (λ c. search needs) loop-again
     (λ c. c .before .loop .inv .long) returns)

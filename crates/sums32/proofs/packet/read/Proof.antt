@@ -9,7 +9,7 @@ use lib.ListN.{length, take, drop, length-drop}
 use lib.Seq.{length-take-le}
 use borrow.Author.Needs.{needs}
 use Rattle.rules.specs.Kind.{kind32}
-use Rattle.rules.specs.Packet.{sketchIn, sumsIn, sumsOf}
+use Rattle.rules.specs.Packet.{sumsAt, sketchIn, sumsIn, sumsOf}
 use Rattle.rules.specs.Calls.{readFor}
 use Rattle.rules.proofs.Bytes.{all-from, refused-by, Reads, read-unrefused}
 use Rattle.rules.proofs.Packet.{all-numbers-length}
@@ -44,7 +44,7 @@ module _ (c : tie.After-put-sums-arg2) where
   as-many = rw sub-zero (length-take-le (sumsIn kind32 (length buf)) sums (reads lent-to .room))
 
 requires : tie.Need-put-sums-requires
-requires c κs = rw (as-many c, all-from 8 (buf c)) (omega (arith, length-drop 8 (buf c)))
+requires c κs = rw (as-many c, all-from (sumsAt kind32) (buf c)) (omega (arith, length-drop (sumsAt kind32) (buf c)))
 
 returns-2 : tie.Need-returns-2
 unfolding sketchIn
@@ -52,8 +52,8 @@ returns-2 c =
     let p = c .before .before .before .before .before in
     let l = p .before in
     let says = reads (lent-to l) .says in
-    let long = all-numbers-length 4 (sumsIn kind32 (length (buf l))) (drop 8 (buf l)) in
-    let put : p .put-sums .last .0 ≡ sumsOf kind32 (buf l) = p .put-sums .ensures ∙ rw (as-many l, all-from 8 (buf l)) in
+    let long = all-numbers-length (kind32 .codeBytes) (sumsIn kind32 (length (buf l))) (drop (sumsAt kind32) (buf l)) in
+    let put : p .put-sums .last .0 ≡ sumsOf kind32 (buf l) = p .put-sums .ensures ∙ rw (as-many l, all-from (sumsAt kind32) (buf l)) in
     (rw (says, c .before .before .count-of .ensures, c .reduce .ensures, c .before .number-at .ensures), rw (says, put, long, sub-zero))
 
 pub read-spec : {M : Type 1} → statement M

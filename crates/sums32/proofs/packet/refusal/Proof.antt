@@ -6,7 +6,7 @@ use lib.ListN.{length-drop}
 use borrow.Author.Needs.{needs}
 use Rattle.rules.specs.Kind.{kind32}
 use Rattle.rules.specs.Sums.{allBelow}
-use Rattle.rules.specs.Packet.{sumsOf}
+use Rattle.rules.specs.Packet.{sumsAt, sumsOf}
 use Rattle.rules.proofs.Tests.{passed, failed}
 use Rattle.rules.proofs.Bytes.{all-from, read-short, read-none, read-many, read-large, read-crowded, read-given}
 use Rattle.sums32.proofs.packet.refusal.Statement.{statement}
@@ -14,13 +14,13 @@ use Rattle.sums32.proofs.packet.refusal.Tie as tie
 
 -- Whether the sums are below the prime is told of all that stands behind the last code.
 below : (c : tie.After-sums-below) → c .sums-below .result ≡ allBelow kind32 (sumsOf kind32 (c .before .before .before .before .before .before .args .buf .now))
-below c = let buf = c .before .before .before .before .before .before .args .buf .now in c .sums-below .ensures ∙ rw (all-from 8 buf)
+below c = let buf = c .before .before .before .before .before .before .args .buf .now in c .sums-below .ensures ∙ rw (all-from (sumsAt kind32) buf)
 
 -- Behind the last code stand the bytes of the sums.
 enough : tie.Need-sums-below-requires
 enough c κs =
     let buf = c .before .before .before .before .before .args .buf .now in
-    rw (all-from 8 buf) (omega (arith, length-drop 8 buf))
+    rw (all-from (sumsAt kind32) buf) (omega (arith, length-drop (sumsAt kind32) buf))
 
 large : tie.Need-returns-4
 large c =

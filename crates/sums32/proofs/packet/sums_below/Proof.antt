@@ -26,17 +26,18 @@ loop-again c =
     let n = c .before in
     let k = n .before in
     let a = k .before .before .before .args in
-    let said = all-numbers-at 4 (a .n) (a .part .now) (k .before .loop .k) (k .loop-test .taken) in
-    let more : k .before .loop .k < length (allNumbers 4 (a .n) (a .part .now)) = omega
-    (arith, all-numbers-length 4 (a .n) (a .part .now), k .loop-test .taken) in
+    let said = all-numbers-at (kind32 .codeBytes) (a .n) (a .part .now) (k .before .loop .k) (k .loop-test .taken) in
+    let more : k .before .loop .k < length (allNumbers (kind32 .codeBytes) (a .n) (a .part .now)) = omega
+    (arith, all-numbers-length (kind32 .codeBytes) (a .n) (a .part .now), k .loop-test .taken) in
     ⊎-elim (λ w. rw (w .1) (most-turn (k .before .loop .inv) more (omega (arith, w .0 .taken, said, n .number-at .ensures))))
     (λ w. rw (w .1) (most-turn (k .before .loop .inv) more (omega (arith, w .0 .left, said, n .number-at .ensures)))) (c .if1 .came)
 
 -- The number of this turn lies in the part.
-within : (c : tie.In-loop Inv-loop μ-loop) → let a = c .before .before .before .args in c .before .loop .k * 4 + 4 ≤ length (a .part .now)
+within : (c : tie.In-loop Inv-loop μ-loop) → let a = c .before .before .before .args in
+    c .before .loop .k * kind32 .codeBytes + kind32 .codeBytes ≤ length (a .part .now)
 within c =
     let s = c .before .before .before in
-    omega (arith, place-within 4 (c .before .loop .k) (s .args .n) (c .loop-test .taken), s .pre)
+    omega (arith, place-within (kind32 .codeBytes) (c .before .loop .k) (s .args .n) (c .loop-test .taken), s .pre)
 
 pub sums-below-spec : {M : Type 1} → statement M
 sums-below-spec =
@@ -44,5 +45,5 @@ sums-below-spec =
     (tie.spec Inv-loop μ-loop (λ c. most-start) (λ c. record { fits = omega (arith, within c, c .before .before .before .good .0) })
     (λ c κs. within c) (λ c. search needs) (λ c. search needs) loop-again
     (λ c. let a = c .before .before .before .args in
-    let all = most-done (c .before .loop .inv) (omega (arith, all-numbers-length 4 (a .n) (a .part .now), c .loop-test .left)) in
-    rw all (sym (every-most (kind32 .modulus) (positive kind32) 0 (allNumbers 4 (a .n) (a .part .now))))))
+    let all = most-done (c .before .loop .inv) (omega (arith, all-numbers-length (kind32 .codeBytes) (a .n) (a .part .now), c .loop-test .left)) in
+    rw all (sym (every-most (kind32 .modulus) (positive kind32) 0 (allNumbers (kind32 .codeBytes) (a .n) (a .part .now))))))

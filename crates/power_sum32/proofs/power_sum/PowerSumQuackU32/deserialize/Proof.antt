@@ -13,8 +13,8 @@ use Rattle.rules.specs.Packet.{sketchIn}
 use Rattle.rules.proofs.Bytes.{refused-by, Reads, read-unrefused, read-places}
 use Rattle.rules.proofs.Packet.{read-sums-below}
 use Rattle.rules.proofs.WellFormed.{placed-below, placed-on-zeros}
-use Rattle.sums32.specs.Answers.{headsOf}
-use Rattle.sums32.specs.declared.packet.Heads.{Heads}
+use Rattle.sums32.specs.Answers.{packetHeadOf}
+use Rattle.sums32.specs.declared.packet.PacketHead.{PacketHead}
 use Rattle.power_sum32.specs.declared.power_sum.Answer.{Answer}
 use Rattle.power_sum32.specs.declared.power_sum.Last.the-variants.{Code}
 use Rattle.power_sum32.specs.Answers.{answered, readOf}
@@ -26,8 +26,8 @@ unfolding readOf
 returns c =
     let r = c .before .before .before .before in
     let buf = r .before .before .before .args .buf .now in
-    let said = r .read .ensures .0 ∙ ap headsOf (read-places kind32 buf) in
-    let refuses = refused-by (calls.read kind32 buf) (ap (λ (h : Heads). h .refusal) said) (c .before .if1 .taken) in
+    let said = r .read .ensures .0 ∙ ap packetHeadOf (read-places kind32 buf) in
+    let refuses = refused-by (calls.read kind32 buf) (ap (λ (h : PacketHead). h .refusal) said) (c .before .if1 .taken) in
     c .no-sketch .ensures ∙ rw refuses
 
 module _ (c : tie.Else1) where
@@ -39,14 +39,14 @@ module _ (c : tie.Else1) where
 
   -- The packet is read.
   reads : Reads kind32 buf (kind32 .greatest)
-  reads = read-unrefused kind32 buf (kind32 .greatest) (sym (ap (λ (h : Heads). h .refusal) (called .read .ensures .0)) ∙ c .if1 .left)
+  reads = read-unrefused kind32 buf (kind32 .greatest) (sym (ap (λ (h : PacketHead). h .refusal) (called .read .ensures .0)) ∙ c .if1 .left)
 
   -- The places hold its sums and zeros.
   placing : called .read .last .1 .0 ≡ placed kind32 (sketchIn kind32 buf .sums)
   placing = called .read .ensures .1 ∙ rw (reads .says) (placed-on-zeros kind32 (length (sketchIn kind32 buf .sums)) (sketchIn kind32 buf .sums) refl)
 
 -- The answer with what the packet says beside its sums, and the numbers of the places.
-abbrev with-heads : Heads → List ℕ → Answer
+abbrev with-heads : PacketHead → List ℕ → Answer
 with-heads h ns = answered 0 (record { threshold = h .threshold; sums = map wrap ns; count = h .count; last = Code (h .last) })
 
 requires : tie.Need-accepted-requires
@@ -59,7 +59,7 @@ returns-2 : tie.Need-returns-2
 unfolding readOf sketchIn
 returns-2 c =
     let e = c .before .before in
-    let heads = called e .read .ensures .0 ∙ ap headsOf (reads e .says) in
+    let heads = called e .read .ensures .0 ∙ ap packetHeadOf (reads e .says) in
     let says = sym (read-places kind32 (buf e)) ∙ reads e .says in
     c .accepted .ensures ∙ ap₂ with-heads heads (placing e) ∙ rw says
 

@@ -6,8 +6,8 @@ use native.Mathlib.Omega.{arith}
 use lib.ListN.{length}
 use borrow.Author.Needs.{needs}
 use Rattle.rules.proofs.Most.{Most, most-start, most-turn, most-done}
-use Rattle.lent.proofs.greatest.Statement.{statement}
-use Rattle.lent.proofs.greatest.Tie as tie
+use Rattle.modint32.proofs.slices.greatest.Statement.{statement}
+use Rattle.modint32.proofs.slices.greatest.Tie as tie
 
 abbrev Inv-loop : tie.InvT-loop
 Inv-loop numbers most₀ k₀ k-end most k = Most numbers most k

@@ -4,8 +4,8 @@ use mathlib.Core.Path.{sym}
 use Rattle.rules.specs.Kind.{kind32}
 use Rattle.rules.proofs.Field.{positive}
 use Rattle.rules.proofs.Most.{every-most}
-use Rattle.sums32.proofs.places.all_below.Statement.{statement}
-use Rattle.sums32.proofs.places.all_below.Tie as tie
+use Rattle.modint32.proofs.slices.all_below.Statement.{statement}
+use Rattle.modint32.proofs.slices.all_below.Tie as tie
 
 pub all-below-spec : {M : Type 1} → statement M
 all-below-spec = tie.close (tie.spec (λ c κs. tt) (λ c. rw (c .greatest .ensures) (sym (every-most (kind32 .modulus) (positive kind32) 0 _))))

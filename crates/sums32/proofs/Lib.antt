@@ -1,2 +1,0 @@
--- What is proved of the test of numbers beside its contract.
-pub mod Wrong
