@@ -1,8 +1,10 @@
-// Replays a recorded list of operations, read from standard input, on the calls of `exports32`, and writes how many
+// Replays a recorded list of operations, read from standard input, on the calls of both widths, and writes how many
 // operations there were and how many were not answered as recorded.
+mod line;
 mod reading;
 
-use operations::slots::PLACES;
+use modint16::Word as Narrow;
+use operations32::slots::PLACES;
 use reading::Reading;
 
 struct Turn {
@@ -10,7 +12,12 @@ struct Turn {
     reading: Reading,
 }
 
-fn read_some(line: &mut [u32; 512], slots: &mut [u32; PLACES], reading: Reading) -> Turn {
+fn read_some(
+    line: &mut [u32; 512],
+    slots: &mut [u32; PLACES],
+    narrow: &mut [Narrow; PLACES],
+    reading: Reading,
+) -> Turn {
     let mut buffer = io::large_buffer();
     let got = libc::read(0, &mut buffer);
     if got <= 0 {
@@ -20,7 +27,7 @@ fn read_some(line: &mut [u32; 512], slots: &mut [u32; PLACES], reading: Reading)
         };
     }
     let n = io::count(got, &buffer);
-    let next = reading::feed(line, slots, reading, &buffer[..n]);
+    let next = reading::feed(line, slots, narrow, reading, &buffer[..n]);
     Turn {
         more: true,
         reading: next,
@@ -29,12 +36,16 @@ fn read_some(line: &mut [u32; 512], slots: &mut [u32; PLACES], reading: Reading)
 
 // A proved loop has to end, and nothing says that the input does: the turns are counted down from a number that no run
 // uses up.
-fn read_all(line: &mut [u32; 512], slots: &mut [u32; PLACES]) -> Reading {
+fn read_all(
+    line: &mut [u32; 512],
+    slots: &mut [u32; PLACES],
+    narrow: &mut [Narrow; PLACES],
+) -> Reading {
     let mut turns = u64::MAX;
     let mut reading = reading::start();
     let mut more = true;
     while turns > 0 && more {
-        let turn = read_some(&mut *line, &mut *slots, reading);
+        let turn = read_some(&mut *line, &mut *slots, &mut *narrow, reading);
         more = turn.more;
         let next = turn.reading;
         reading = next;
@@ -46,8 +57,9 @@ fn read_all(line: &mut [u32; 512], slots: &mut [u32; PLACES]) -> Reading {
 fn main() {
     let mut line = [0u32; 512];
     let mut slots = [0u32; PLACES];
-    let read = read_all(&mut line, &mut slots);
-    let ended = reading::finish(&mut line, &mut slots, read);
+    let mut narrow: [Narrow; PLACES] = [0; PLACES];
+    let read = read_all(&mut line, &mut slots, &mut narrow);
+    let ended = reading::finish(&mut line, &mut slots, &mut narrow, read);
     io::print_decimal(1, ended.operations);
     io::write_all(1, b" operations, ");
     io::print_decimal(1, ended.differences);

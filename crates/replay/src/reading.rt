@@ -1,6 +1,7 @@
 // The list read byte by byte: the numbers of a line stand in an array until the line ends, and the line is run then.
-use operations::line;
-use operations::slots::PLACES;
+use crate::line;
+use modint16::Word as Narrow;
+use operations32::slots::PLACES;
 
 // How many numbers of the line stand in the array, the number that is being read, whether it has a digit, whether the
 // line can be read so far, and what was counted up to this line.
@@ -73,17 +74,27 @@ fn end_number(numbers: &mut [u32; 512], mut reading: Reading) -> Reading {
     reading
 }
 
-fn agrees(numbers: &[u32; 512], slots: &mut [u32; PLACES], reading: Reading) -> bool {
+fn agrees(
+    numbers: &[u32; 512],
+    slots: &mut [u32; PLACES],
+    narrow: &mut [Narrow; PLACES],
+    reading: Reading,
+) -> bool {
     if !reading.readable {
         return false;
     }
-    line::run_line(numbers, reading.count, slots)
+    line::run_line(numbers, reading.count, slots, narrow)
 }
 
-fn end_line(numbers: &mut [u32; 512], slots: &mut [u32; PLACES], reading: Reading) -> Reading {
+fn end_line(
+    numbers: &mut [u32; 512],
+    slots: &mut [u32; PLACES],
+    narrow: &mut [Narrow; PLACES],
+    reading: Reading,
+) -> Reading {
     let whole = end_number(numbers, reading);
     let operations = std::num::wrapping_add_u64(reading.operations, 1);
-    if agrees(numbers, slots, whole) {
+    if agrees(numbers, slots, narrow, whole) {
         next_line(operations, reading.differences)
     } else {
         next_line(
@@ -96,11 +107,12 @@ fn end_line(numbers: &mut [u32; 512], slots: &mut [u32; PLACES], reading: Readin
 fn step(
     numbers: &mut [u32; 512],
     slots: &mut [u32; PLACES],
+    narrow: &mut [Narrow; PLACES],
     reading: Reading,
     byte: u8,
 ) -> Reading {
     if byte == b'\n' {
-        return end_line(numbers, slots, reading);
+        return end_line(numbers, slots, narrow, reading);
     }
     if byte == b' ' {
         return end_number(numbers, reading);
@@ -111,12 +123,13 @@ fn step(
 pub(crate) fn feed(
     numbers: &mut [u32; 512],
     slots: &mut [u32; PLACES],
+    narrow: &mut [Narrow; PLACES],
     reading: Reading,
     bytes: &[u8],
 ) -> Reading {
     let mut at = reading;
     for k in 0..bytes.len() {
-        at = step(&mut *numbers, &mut *slots, at, bytes[k]);
+        at = step(&mut *numbers, &mut *slots, &mut *narrow, at, bytes[k]);
     }
     at
 }
@@ -135,10 +148,11 @@ fn is_fresh(reading: Reading) -> bool {
 pub(crate) fn finish(
     numbers: &mut [u32; 512],
     slots: &mut [u32; PLACES],
+    narrow: &mut [Narrow; PLACES],
     reading: Reading,
 ) -> Reading {
     if is_fresh(reading) {
         return reading;
     }
-    end_line(numbers, slots, reading)
+    end_line(numbers, slots, narrow, reading)
 }

@@ -5,10 +5,10 @@ use Rattle.replay.proofs.read_all.Statement.{statement}
 use Rattle.replay.proofs.read_all.Tie as tie
 
 abbrev Inv-loop : tie.InvT-loop
-Inv-loop line₀ slots₀ turns₀ reading₀ more₀ line slots turns reading more = Unit
+Inv-loop line₀ slots₀ narrow₀ turns₀ reading₀ more₀ line slots narrow turns reading more = Unit
 
 abbrev μ-loop : tie.MeasureT-loop
-μ-loop line₀ slots₀ turns₀ reading₀ more₀ line slots turns reading more = turns
+μ-loop line₀ slots₀ narrow₀ turns₀ reading₀ more₀ line slots narrow turns reading more = turns
 
 pub read-all-spec : {M : Type 1} → statement M
 read-all-spec =

@@ -7,10 +7,10 @@ use Rattle.replay.proofs.reading.feed.Statement.{statement}
 use Rattle.replay.proofs.reading.feed.Tie as tie
 
 abbrev Inv-loop : tie.InvT-loop
-Inv-loop numbers₀ slots₀ bytes at₀ k₀ k-end numbers slots at k = Unit
+Inv-loop numbers₀ slots₀ narrow₀ bytes at₀ k₀ k-end numbers slots narrow at k = Unit
 
 abbrev μ-loop : tie.MeasureT-loop
-μ-loop numbers₀ slots₀ bytes at₀ k₀ k-end numbers slots at k = length bytes - k
+μ-loop numbers₀ slots₀ narrow₀ bytes at₀ k₀ k-end numbers slots narrow at k = length bytes - k
 
 pub feed-spec : {M : Type 1} → statement M
 feed-spec =

@@ -1,0 +1,2 @@
+-- The structs of the field beside the rules.
+pub mod Answers

@@ -1,7 +1,0 @@
-// The operations of a recorded list, run on the calls of `exports32` and compared with the answers recorded.
-mod agree;
-mod field;
-pub mod line;
-mod sketch;
-pub mod slots;
-mod widths;

@@ -1,0 +1,3 @@
+-- What is proved of the values beside their contracts.
+pub mod Wrong
+pub mod OneReductionGuards

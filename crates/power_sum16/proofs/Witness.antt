@@ -1,0 +1,120 @@
+-- The promise for the calls that run, applied at its limit: a history with a removal before its insertion, both subtractions and a packet with a hint, whose
+-- sketch keeps two sums and lacks exactly two codes. So its premises can be met, and one that asked for more would not be met here.
+-- Assumes nothing.
+use Prim.Native.Nat.{ℕ, _-_}
+use mathlib.Core.Path.{_≡_, refl}
+use mathlib.Core.List.{List, [], _∷_, _++_}
+use mathlib.Core.Logic.{inl, inr}
+use native.Mathlib.Omega.{arith}
+use lib.Dec.{lit≤}
+use lib.ListN.{replicate}
+use contract.Lifetimes.{Lfts}
+use denote.Ref.{RefT, now}
+use Rattle.numbers.specs.Table.{every}
+use Rattle.newton.specs.Members.{AllBelow}
+use Rattle.rules.specs.Kind.{kind16}
+use Rattle.rules.specs.Field.{residue}
+use Rattle.rules.specs.Sketch.{Sketch, fresh, insert, remove, subtract, cut, each, wellFormed}
+use Rattle.rules.specs.Packet.{bytes, number, allBytes, allNumbers, packet, sketchIn}
+use Rattle.rules.specs.Calls as calls
+use Rattle.rules.specs.History as history
+use Rattle.rules.specs.History.{History, net}
+use Rattle.rules.specs.Run.{Ran, made, inserted, removed, subtractedInPlace, subtracted, carriedByHint, LeftIn}
+use Rattle.rules.proofs.Each.{every-below}
+use Rattle.rules.proofs.Determined.{lent}
+use Rattle.lent.specs.declared.Number.{Number}
+use Rattle.lent.specs.Answers.{counted}
+use Rattle.power_sum16.specs.declared.power_sum.PowerSumQuackU16.{PowerSumQuackU16}
+use Rattle.power_sum16.specs.Answers.{built, newOf, insertOf, removeOf, subAssignOf, subOf, writeWithHintOf, readOf}
+use Rattle.power_sum16.proofs.Idle.{code}
+use Rattle.power_sum16.proofs.Promise.{the-calls, decode-exact, same-net, Wrote, Read, read-and-written}
+use Rattle.power_sum16.proofs.power_sum.PowerSumQuackU16.decode_with_log.Reads as decode-with-log
+
+-- The sketch of threshold 3 from which 5 is removed before it is inserted, and into which 7, 11 and 13 are.
+abbrev put : Sketch
+put = insert kind16 (insert kind16 (insert kind16 (insert kind16 (remove kind16 (fresh 3) 5) 5) 7) 11) 13
+
+-- It less that of 13, with 9 put in.
+abbrev less : Sketch
+less = insert kind16 (subtract kind16 put (insert kind16 (fresh 3) 13)) 9
+
+-- It carried with two sums, less the sketch of 11: 7 and 9 are left.
+abbrev left : Sketch
+left = subtract kind16 (cut less 2) (insert kind16 (fresh 3) 11)
+
+-- The history of these calls.
+abbrev calls-made : History
+calls-made =
+    history.sub
+    (history.carried
+    (history.insert
+    (history.subAssign
+    (history.insert (history.insert (history.insert (history.insert (history.remove (history.fresh 3) 5) 5) 7) 11) 13)
+    (history.insert (history.fresh 3) 13)) 9) 2)
+    (history.insert (history.fresh 3) 11)
+
+-- The bytes of the packet with two sums.
+abbrev sent : List ℕ
+sent = packet kind16 (less .count) 9 (cut less 2 .sums)
+
+-- The calls run so, the first insertion in place.
+ran : Lfts 1 → Ran the-calls calls-made (built left)
+unfolding fresh insert remove subtract cut each every wellFormed newOf insertOf removeOf subAssignOf subOf writeWithHintOf readOf calls.make calls.insert
+    calls.remove calls.subAssign calls.sub calls.writeWithHint calls.read packet bytes number allBytes allNumbers sketchIn
+ran κs =
+    subtracted
+    (carriedByHint 2 sent
+    (inserted (code 9)
+    (subtractedInPlace
+    (inserted (code 13) (inserted (code 11) (inserted (code 7)
+    (inserted (code 5) (removed (code 5) (made 3 refl) (inl refl)) (inr (refl, refl))) (inl refl)) (inl refl))
+    (inl refl))
+    (inserted (code 13) (made 3 refl) (inl refl)) refl) (inl refl)) (lit≤ tt)
+    (record { κs = κs; buf = lent (replicate 10 0); buf₁ = lent sent; n = 10; promised = (refl, refl); bytes = refl })
+    (record { κs = κs; packet = lent sent; packet₁ = lent sent; bytes = refl; promised = refl }))
+    (inserted (code 11) (made 3 refl) (inl refl)) refl
+
+-- Two are left, and two sums are kept.
+two-left : LeftIn kind16 calls-made 2 2
+two-left = record { none-below = λ r. omega arith; in-all = refl; enough = lit≤ tt }
+
+-- Decoding lists exactly them, with a repeat, in the log's order.
+pub limit-listed : (κ : Lfts 1) (κs : Lfts 2) (log₁ out₁ : RefT (List ℕ)) (r : Number)
+    → decode-with-log.Post κs (built left, (lent (5 ∷ 7 ∷ 9 ∷ 7 ∷ 11 ∷ 13 ∷ []), (lent (replicate 6 0), tt))) r (built left, (log₁, (out₁, tt)))
+    → (r ≡ counted 3) × (now out₁ ≡ 7 ∷ 9 ∷ 7 ∷ 0 ∷ 0 ∷ 0 ∷ [])
+unfolding fresh insert remove subtract cut
+limit-listed κ κs log₁ out₁ r p =
+    decode-exact (ran κ) two-left κs (lent (5 ∷ 7 ∷ 9 ∷ 7 ∷ 11 ∷ 13 ∷ [])) log₁ (lent (replicate 6 0)) out₁ r (lit≤ tt) p
+
+-- ---- the sums determine what is left
+
+-- A history of two insertions leaves the same two codes.
+abbrev two-inserted : History
+two-inserted = history.insert (history.insert (history.fresh 2) 7) 9
+
+-- The calls of it run so.
+ran-two : Ran the-calls two-inserted (built (insert kind16 (insert kind16 (fresh 2) 7) 9))
+unfolding fresh insert each every wellFormed newOf insertOf calls.make calls.insert
+ran-two = inserted (code 9) (inserted (code 7) (made 2 refl) (inl refl)) (inl refl)
+
+-- Both keep two sums, which are the same, so each residue has the same net number in both.
+pub limit-same : Lfts 1 → (r : ℕ) → net kind16 calls-made r ≡ net kind16 two-inserted r
+unfolding fresh insert remove subtract cut each
+limit-same κs = same-net (ran κs) two-left ran-two (record { none-below = λ r. omega arith; in-all = refl; enough = lit≤ tt }) refl
+
+-- ---- a packet
+
+-- One sum and as many bytes more as are not another, and a last code that is to be reduced.
+abbrev trailed : List ℕ
+trailed = packet kind16 1 65535 (5 ∷ []) ++ replicate (kind16 .codeBytes - 1) 9
+
+-- They are bytes.
+trailed-bytes : AllBelow 256 trailed
+unfolding every packet bytes allBytes
+trailed-bytes = every-below 256 0 trailed refl
+
+-- Read and written again, they are those of the sum, with the last code reduced.
+pub limit-written-again : {s : PowerSumQuackU16} {again : List ℕ} → Read trailed s → Wrote s again
+    → again ≡ packet kind16 1 (residue kind16 65535) (5 ∷ [])
+unfolding bytes number packet allBytes
+limit-written-again p q = read-and-written trailed trailed-bytes p q
