@@ -4,20 +4,21 @@
  * A sketch is a small summary of a collection of codes. Keep one of what was sent and one of what arrived, subtract the second from the
  * first, and decode: out of the log of what was sent come the entries that did not arrive.
  *
- * The functions are those of the crate exports32, whose contracts are proved.
+ * The functions are those of the crate exports32, whose contracts are proved. eddybridge16.h has the same calls for 16-bit codes, and a
+ * program may use both.
  *
  *
  * How to link
  *
- * `bindings/archive` proves the crate and writes target/lib/MACHINE/libeddybridge32.a, MACHINE being what `uname -m` says. Link it after
- * the program's own objects; it needs nothing but the C library.
+ * `bindings/archive` proves the crates of both widths and writes libeddybridge32.a and libeddybridge16.a to target/lib/MACHINE, MACHINE
+ * being what `uname -m` says. Link libeddybridge32.a after the program's own objects; it needs nothing but the C library.
  *
  *     bindings/archive
  *     cc -I include program.c target/lib/$(uname -m)/libeddybridge32.a -o program
  *
  * The Rattle toolchain makes archives for x86-64 Linux, and such an archive does not link on Arm. There `bindings/archive` goes by way of
  * `bench/native-kit`: the same proved functions, through the same compiler, for the machine at hand. `bindings/archive x86_64` makes the
- * toolchain's own archive on any machine.
+ * toolchain's own archives on any machine.
  *
  *
  * Codes and residues
@@ -55,7 +56,7 @@
  * Every call takes every input. A call that cannot do what it is asked answers the number of a refusal, one of the constants below, and
  * EDDY32_OK, which is 0, where nothing is refused. Of several that are due, the first in the order that stands beside the function is
  * answered: 12 before all others, 5 after all others. Where a call is refused, every other number of its answer is 0, and all that was lent
- * to it stays as it was.
+ * to it stays as it was. The numbers are those of eddybridge16.h.
  *
  *
  * When the list is exact

@@ -2,15 +2,39 @@
 #[cfg(feature = "alloc")]
 use crate::field::Residue;
 use crate::refusal::Refusal;
+use crate::Width;
 #[cfg(feature = "alloc")]
 use alloc::{vec, vec::Vec};
 use core::fmt;
-use eddybridge_sys::{self as sys, COUNT, HAS_LAST, LAST, MAX_WORDS, SUMS, THRESHOLD};
+use eddybridge_sys as sys;
 
-/// A sketch of a multiset of 32-bit values: as many sums of powers as its threshold, a count, and the last value
-/// inserted, where it is known.
+/// A sketch of 32-bit values.
+pub type PowerSumQuackU32 = PowerSumQuack<u32>;
+
+/// A sketch of 16-bit values.
 ///
-/// A value of the prime [`MODULUS`](crate::field::MODULUS) or more counts as its residue, the value less the prime.
+/// # Examples
+///
+/// ```
+/// use eddybridge::PowerSumQuackU16;
+///
+/// # fn main() -> Result<(), eddybridge::Refusal> {
+/// let mut sketch = PowerSumQuackU16::new(2)?;
+/// sketch.insert(65535);
+/// assert_eq!(sketch.last_value(), Some(14));
+/// assert_eq!(sketch.decode_with_log(&[14, 15, 65535])?, [14, 65535]);
+/// # Ok(())
+/// # }
+/// ```
+pub type PowerSumQuackU16 = PowerSumQuack<u16>;
+
+/// Room for a sketch of the greatest threshold at either width: one of 16 bits has two words for its count.
+const ROOM: usize = sys::width16::MAX_WORDS;
+
+/// A sketch of a multiset of values, [`PowerSumQuackU32`] or [`PowerSumQuackU16`]: as many sums of powers as its
+/// threshold, a count, and the last value inserted, where it is known.
+///
+/// A value of the prime [`MODULUS`](Width::MODULUS) or more counts as its residue, the value less the prime.
 ///
 /// # Examples
 ///
@@ -26,14 +50,33 @@ use eddybridge_sys::{self as sys, COUNT, HAS_LAST, LAST, MAX_WORDS, SUMS, THRESH
 /// # }
 /// ```
 #[derive(Clone, PartialEq, Eq)]
-pub struct PowerSumQuackU32 {
-    /// The words of the sketch, and zeros behind them: every sketch begins as [`Self::BLANK`], and no call writes there.
+pub struct PowerSumQuack<W> {
+    /// The words of the sketch, and zeros behind them: every sketch begins as [`Self::blank`], and no call writes there.
     /// So two sketches are equal where all their words are.
-    words: [u32; MAX_WORDS],
+    words: [W; ROOM],
 }
 
-impl PowerSumQuackU32 {
-    const BLANK: Self = Self { words: [0; MAX_WORDS] };
+impl<W: Width> PowerSumQuack<W> {
+    /// The bytes of the longest packet, that of a sketch of [`MAX_THRESHOLD`](crate::MAX_THRESHOLD).
+    pub const MAX_PACKET_LEN: usize = Self::packet_len(crate::MAX_THRESHOLD);
+
+    /// The bytes of the packet of a sketch of a threshold: 8 + 4·threshold at 32 bits, 6 + 2·threshold at 16 bits.
+    ///
+    /// # Examples
+    ///
+    /// ```
+    /// use eddybridge::{PowerSumQuackU16, PowerSumQuackU32};
+    ///
+    /// assert_eq!(PowerSumQuackU32::packet_len(3), 20);
+    /// assert_eq!(PowerSumQuackU16::packet_len(3), 12);
+    /// ```
+    pub const fn packet_len(threshold: usize) -> usize {
+        sys::packet_bytes::<W>(threshold)
+    }
+
+    fn blank() -> Self {
+        Self { words: [W::default(); ROOM] }
+    }
 
     /// Makes an empty sketch that can decode up to `threshold` values.
     ///
@@ -56,8 +99,8 @@ impl PowerSumQuackU32 {
     /// # }
     /// ```
     pub fn new(threshold: usize) -> Result<Self, Refusal> {
-        let mut made = Self::BLANK;
-        Refusal::unless(sys::new(threshold, &mut made.words), ())?;
+        let mut made = Self::blank();
+        Refusal::unless(W::new(threshold, &mut made.words), ())?;
         Ok(made)
     }
 
@@ -77,8 +120,8 @@ impl PowerSumQuackU32 {
     /// # Ok(())
     /// # }
     /// ```
-    pub fn insert(&mut self, value: u32) {
-        Refusal::none(sys::insert(&mut self.words, value));
+    pub fn insert(&mut self, value: W) {
+        Refusal::none(W::insert(&mut self.words, value));
     }
 
     /// Removes `value`, whether or not it was inserted. The count falls by 1 modulo 2^32. The last value becomes
@@ -101,8 +144,8 @@ impl PowerSumQuackU32 {
     /// # Ok(())
     /// # }
     /// ```
-    pub fn remove(&mut self, value: u32) {
-        Refusal::none(sys::remove(&mut self.words, value));
+    pub fn remove(&mut self, value: W) {
+        Refusal::none(W::remove(&mut self.words, value));
     }
 
     /// Subtracts `rhs` from this sketch. The last value becomes unknown.
@@ -135,7 +178,7 @@ impl PowerSumQuackU32 {
     /// # }
     /// ```
     pub fn sub_assign(&mut self, rhs: &Self) -> Result<(), Refusal> {
-        Refusal::unless(sys::sub_assign(&mut self.words, &rhs.words), ())
+        Refusal::unless(W::sub_assign(&mut self.words, &rhs.words), ())
     }
 
     /// The difference of this sketch and `rhs`, with the smaller of the two thresholds and no last value.
@@ -156,8 +199,8 @@ impl PowerSumQuackU32 {
     /// # }
     /// ```
     pub fn sub(&self, rhs: &Self) -> Self {
-        let mut difference = Self::BLANK;
-        Refusal::none(sys::sub(&self.words, &rhs.words, &mut difference.words));
+        let mut difference = Self::blank();
+        Refusal::none(W::sub(&self.words, &rhs.words, &mut difference.words));
         difference
     }
 
@@ -182,9 +225,9 @@ impl PowerSumQuackU32 {
     /// # }
     /// ```
     #[cfg(feature = "alloc")]
-    pub fn to_coeffs(&self) -> Result<Vec<Residue>, Refusal> {
-        let mut coeffs = [0; sys::MAX_THRESHOLD];
-        let answer = sys::to_coeffs(&self.words, &mut coeffs);
+    pub fn to_coeffs(&self) -> Result<Vec<Residue<W>>, Refusal> {
+        let mut coeffs = [W::default(); crate::MAX_THRESHOLD];
+        let answer = W::to_coeffs(&self.words, &mut coeffs);
         let n = Refusal::unless(answer.refusal, answer.value)?;
         Ok(coeffs[..n].iter().map(|&coeff| Residue::answered(coeff)).collect())
     }
@@ -211,8 +254,8 @@ impl PowerSumQuackU32 {
     /// # }
     /// ```
     #[cfg(feature = "alloc")]
-    pub fn decode_with_log(&self, log: &[u32]) -> Result<Vec<u32>, Refusal> {
-        let mut found = vec![0; log.len()];
+    pub fn decode_with_log(&self, log: &[W]) -> Result<Vec<W>, Refusal> {
+        let mut found = vec![W::default(); log.len()];
         let n = self.decode_into(log, &mut found)?;
         found.truncate(n);
         Ok(found)
@@ -246,15 +289,16 @@ impl PowerSumQuackU32 {
     /// # Ok(())
     /// # }
     /// ```
-    pub fn decode_into(&self, log: &[u32], out: &mut [u32]) -> Result<usize, Refusal> {
-        let answer = sys::decode_with_log(&self.words, log, out);
+    pub fn decode_into(&self, log: &[W], out: &mut [W]) -> Result<usize, Refusal> {
+        let answer = W::decode_with_log(&self.words, log, out);
         Refusal::unless(answer.refusal, answer.value)
     }
 
-    /// Writes the sketch as a packet to the front of `buf`, and answers its length, the [`packet_len`](crate::packet_len)
+    /// Writes the sketch as a packet to the front of `buf`, and answers its length, the [`packet_len`](Self::packet_len)
     /// of the threshold. Bytes beyond it stay.
     ///
-    /// The packet is little-endian on every machine: the count, the last value, and the sums, four bytes each.
+    /// The packet is little-endian on every machine: the count in four bytes, then the last value and the sums, in four
+    /// bytes each at 32 bits and in two at 16 bits.
     ///
     /// # Errors
     ///
@@ -264,20 +308,26 @@ impl PowerSumQuackU32 {
     /// # Examples
     ///
     /// ```
-    /// use eddybridge::{PowerSumQuackU32, MAX_PACKET_LEN};
+    /// use eddybridge::{PowerSumQuackU16, PowerSumQuackU32};
     ///
     /// # fn main() -> Result<(), eddybridge::Refusal> {
     /// let mut sketch = PowerSumQuackU32::new(2)?;
     /// sketch.insert(1);
     /// sketch.insert(10);
-    /// let mut buf = [0; MAX_PACKET_LEN];
+    /// let mut buf = [0; PowerSumQuackU32::MAX_PACKET_LEN];
     /// let length = sketch.serialize(&mut buf)?;
     /// assert_eq!(buf[..length], [2, 0, 0, 0, 10, 0, 0, 0, 11, 0, 0, 0, 101, 0, 0, 0]);
+    ///
+    /// let mut small = PowerSumQuackU16::new(2)?;
+    /// small.insert(1);
+    /// small.insert(10);
+    /// let length = small.serialize(&mut buf)?;
+    /// assert_eq!(buf[..length], [2, 0, 0, 0, 10, 0, 11, 0, 101, 0]);
     /// # Ok(())
     /// # }
     /// ```
     pub fn serialize(&self, buf: &mut [u8]) -> Result<usize, Refusal> {
-        let answer = sys::serialize(&self.words, buf);
+        let answer = W::serialize(&self.words, buf);
         Refusal::unless(answer.refusal, answer.value)
     }
 
@@ -304,18 +354,18 @@ impl PowerSumQuackU32 {
     /// # }
     /// ```
     pub fn serialize_with_hint(&self, buf: &mut [u8], num_missing: usize) -> Result<usize, Refusal> {
-        let answer = sys::serialize_with_hint(&self.words, buf, num_missing);
+        let answer = W::serialize_with_hint(&self.words, buf, num_missing);
         Refusal::unless(answer.refusal, answer.value)
     }
 
-    /// Reads a packet. The threshold is the number of sums in `buf`, so `buf` has to end where the packet does; up to
-    /// three bytes that make no whole sum are ignored.
+    /// Reads a packet. The threshold is the number of sums in `buf`, so `buf` has to end where the packet does; bytes at
+    /// the end that make no whole sum are ignored.
     ///
     /// # Errors
     ///
-    /// - [`Refusal::PacketTooShort`] where `buf` has fewer than 8 bytes;
+    /// - [`Refusal::PacketTooShort`] where `buf` has fewer than 8 bytes at 32 bits, or 6 at 16 bits;
     /// - [`Refusal::SumsOutOfRange`] where it has no sum, or more than [`MAX_THRESHOLD`](crate::MAX_THRESHOLD);
-    /// - [`Refusal::NotReduced`] where a sum is [`MODULUS`](crate::field::MODULUS) or more.
+    /// - [`Refusal::NotReduced`] where a sum is [`MODULUS`](Width::MODULUS) or more.
     ///
     /// # Examples
     ///
@@ -333,8 +383,8 @@ impl PowerSumQuackU32 {
     /// # }
     /// ```
     pub fn deserialize(buf: &[u8]) -> Result<Self, Refusal> {
-        let mut read = Self::BLANK;
-        Refusal::unless(sys::deserialize(buf, &mut read.words), ())?;
+        let mut read = Self::blank();
+        Refusal::unless(W::deserialize(buf, &mut read.words), ())?;
         Ok(read)
     }
 
@@ -349,7 +399,7 @@ impl PowerSumQuackU32 {
     /// # }
     /// ```
     pub fn threshold(&self) -> usize {
-        self.words[THRESHOLD] as usize
+        self.words[sys::THRESHOLD].length()
     }
 
     /// The number of values inserted less the number removed, modulo 2^32.
@@ -365,7 +415,7 @@ impl PowerSumQuackU32 {
     /// # }
     /// ```
     pub fn count(&self) -> u32 {
-        self.words[COUNT]
+        W::count(&self.words)
     }
 
     /// The residue of the value that was inserted last, where it is known. Removing it and subtracting make it unknown.
@@ -381,18 +431,18 @@ impl PowerSumQuackU32 {
     /// # Ok(())
     /// # }
     /// ```
-    pub fn last_value(&self) -> Option<u32> {
-        (self.words[HAS_LAST] == 1).then_some(self.words[LAST])
+    pub fn last_value(&self) -> Option<W> {
+        (self.words[W::HAS_LAST] != W::default()).then_some(self.words[W::LAST])
     }
 
-    fn power_sums(&self) -> &[u32] {
-        &self.words[SUMS..][..self.threshold()]
+    fn power_sums(&self) -> &[W] {
+        &self.words[W::SUMS..][..self.threshold()]
     }
 }
 
-impl fmt::Debug for PowerSumQuackU32 {
+impl<W: Width> fmt::Debug for PowerSumQuack<W> {
     fn fmt(&self, f: &mut fmt::Formatter<'_>) -> fmt::Result {
-        f.debug_struct("PowerSumQuackU32")
+        f.debug_struct(W::SKETCH)
             .field("power_sums", &self.power_sums())
             .field("last_value", &self.last_value())
             .field("count", &self.count())

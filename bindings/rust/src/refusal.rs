@@ -28,11 +28,12 @@ pub enum Refusal {
     ThresholdsDiffer = sys::THRESHOLDS_DIFFER,
     /// 3: a sketch without a last value is to be written.
     NoLastValue = sys::NO_LAST_CODE,
-    /// 4: coefficients or a decoding are asked of a sketch whose count is above its threshold.
+    /// 4: coefficients or a decoding are asked of a sketch whose count is above its threshold; or
+    /// [`eval_precompute`](crate::eval_precompute) is given more than 32 coefficients.
     CountAboveThreshold = sys::COUNT_ABOVE_THRESHOLD,
     /// 5: the buffer to write into is shorter than the packet, or than the log of a decoding.
     BufferTooShort = sys::BUFFER_TOO_SHORT,
-    /// 6: the packet to read has fewer than 8 bytes.
+    /// 6: the packet to read has fewer bytes than a count and a last value: 8 at 32 bits, 6 at 16 bits.
     PacketTooShort = sys::PACKET_TOO_SHORT,
     /// 7: the packet to read has no sum, or more than 32.
     SumsOutOfRange = sys::SUMS_OUT_OF_RANGE,
@@ -44,8 +45,8 @@ pub enum Refusal {
     LogTooLong = 10,
     /// 11: a polynomial without coefficients is to be evaluated.
     NoCoefficient = sys::NO_COEFFICIENT,
-    /// 12: a sketch is not well formed. Every [`PowerSumQuackU32`](crate::PowerSumQuackU32) is, so no call of this
-    /// crate gives it.
+    /// 12: a sketch is not well formed. Every [`PowerSumQuack`](crate::PowerSumQuack) is, so no call of this crate gives
+    /// it.
     NotWellFormed = sys::NOT_WELL_FORMED,
 }
 
@@ -74,8 +75,7 @@ impl Refusal {
         if number == sys::OK {
             return Ok(given);
         }
-        Err(Self::from_number(number)
-            .unwrap_or_else(|| panic!("libeddybridge32.a answers {number}, which is no refusal")))
+        Err(Self::from_number(number).unwrap_or_else(|| panic!("the archive answers {number}, which is no refusal")))
     }
 
     /// Passes over the number that a call answers which refuses no well-formed sketch.
@@ -84,7 +84,7 @@ impl Refusal {
     ///
     /// On any other number than 0: the archive that was linked is then not of this version.
     pub(crate) fn none(number: u32) {
-        assert!(number == sys::OK, "libeddybridge32.a refuses a well-formed sketch by {number}");
+        assert!(number == sys::OK, "the archive refuses a well-formed sketch by {number}");
     }
 
     /// The refusal's number.
@@ -119,9 +119,9 @@ impl Refusal {
             Self::ThresholdOutOfRange => "the threshold is 0 or above 32",
             Self::ThresholdsDiffer => "the thresholds differ",
             Self::NoLastValue => "the sketch has no last value",
-            Self::CountAboveThreshold => "the count is above the threshold",
+            Self::CountAboveThreshold => "the count is above the threshold, or there are more than 32 coefficients",
             Self::BufferTooShort => "the buffer is too short",
-            Self::PacketTooShort => "the packet has fewer than 8 bytes",
+            Self::PacketTooShort => "the packet is shorter than a count and a last value",
             Self::SumsOutOfRange => "the packet has no sum or more than 32",
             Self::NotReduced => "a sum or a coefficient is the modulus or more",
             Self::BadLine => "a line is not as prescribed",

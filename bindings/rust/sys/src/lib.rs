@@ -1,50 +1,47 @@
-//! The functions of `libeddybridge32.a`, declared for Rust as in `include/eddybridge32.h`, and a safe function over each.
+//! The functions of `libeddybridge32.a` and `libeddybridge16.a`, declared for Rust as in `include/eddybridge32.h` and
+//! `include/eddybridge16.h`, and a safe function over each.
 //!
-//! A slice crosses as a pointer and then a length. A sketch of threshold T is the first [`words`]`(T)` words of its
-//! slice: the threshold, the count, whether there is a last code, that code, and the T sums. What stands behind them is
+//! [`width32`] has sketches of 32-bit codes and [`width16`] those of 16-bit codes, by the same names. What both widths
+//! share stands here: the refusals, the greatest threshold, and the forms of answers.
+//!
+//! A slice crosses as a pointer and then a length. A sketch of threshold T is the first `words(T)` words of its slice:
+//! the threshold, the count, whether there is a last code, that code, and the T sums. What stands behind them is
 //! neither read nor written. A call that may refuse answers the number of a refusal, [`OK`] where nothing is refused,
-//! and a refused call changes nothing. The header says more of each call.
+//! and a refused call changes nothing. The headers say more of each call.
 //!
-//! The crate's tests hold the declarations to the header and to the source of the functions.
+//! The crate's tests hold the declarations to the headers and to the source of the functions.
 //!
 //! ```
-//! let mut sketch = [0; eddybridge_sys::words(3)];
-//! assert_eq!(eddybridge_sys::new(3, &mut sketch), eddybridge_sys::OK);
-//! assert_eq!(eddybridge_sys::insert(&mut sketch, 10), eddybridge_sys::OK);
+//! use eddybridge_sys::{width16, width32, OK};
+//!
+//! let mut sketch = [0; width32::words(3)];
+//! assert_eq!(width32::new(3, &mut sketch), OK);
+//! assert_eq!(width32::insert(&mut sketch, 10), OK);
 //! assert_eq!(sketch, [3, 1, 1, 10, 10, 100, 1000]);
+//!
+//! let mut small = [0; width16::words(3)];
+//! assert_eq!(width16::new(3, &mut small), OK);
+//! assert_eq!(width16::insert(&mut small, 10), OK);
+//! assert_eq!(small, [3, 1, 0, 1, 10, 10, 100, 1000]);
 //! ```
 #![no_std]
 #![deny(missing_docs)]
 
-/// The prime, 2^32 - 5.
-pub const MODULUS: u32 = 4294967291;
-/// The greatest threshold.
+#[macro_use]
+mod calls;
+pub mod width16;
+pub mod width32;
+
+/// The greatest threshold, at both widths.
 pub const MAX_THRESHOLD: usize = 32;
-/// The words of a sketch of the greatest threshold.
-pub const MAX_WORDS: usize = words(MAX_THRESHOLD);
-/// The bytes of the packet of a sketch of the greatest threshold.
-pub const MAX_PACKET_BYTES: usize = packet_bytes(MAX_THRESHOLD);
-
-/// The words of a sketch of a threshold.
-pub const fn words(threshold: usize) -> usize {
-    SUMS + threshold
-}
-
-/// The bytes of the packet of a sketch of a threshold.
-pub const fn packet_bytes(threshold: usize) -> usize {
-    8 + 4 * threshold
-}
-
-/// The word of the threshold.
+/// The word of the threshold, at both widths.
 pub const THRESHOLD: usize = 0;
-/// The word of the count.
-pub const COUNT: usize = 1;
-/// The word that is 1 where there is a last code, and 0 where there is none.
-pub const HAS_LAST: usize = 2;
-/// The word of the last code, 0 where there is none.
-pub const LAST: usize = 3;
-/// The word of the first sum.
-pub const SUMS: usize = 4;
+
+/// The bytes of the packet of a sketch of a threshold, of the width whose words are `Word`: four for the count, and a
+/// word for the last code and for each sum.
+pub const fn packet_bytes<Word>(threshold: usize) -> usize {
+    4 + (1 + threshold) * core::mem::size_of::<Word>()
+}
 
 /// Nothing is refused.
 pub const OK: u32 = 0;
@@ -54,11 +51,12 @@ pub const THRESHOLD_OUT_OF_RANGE: u32 = 1;
 pub const THRESHOLDS_DIFFER: u32 = 2;
 /// Refusal: there is no last code.
 pub const NO_LAST_CODE: u32 = 3;
-/// Refusal: the count is above the threshold.
+/// Refusal: the count is above the threshold; or [`width16::eval_precompute`] has more than [`MAX_THRESHOLD`]
+/// coefficients.
 pub const COUNT_ABOVE_THRESHOLD: u32 = 4;
 /// Refusal: a slice to write to is too short.
 pub const BUFFER_TOO_SHORT: u32 = 5;
-/// Refusal: fewer than 8 bytes.
+/// Refusal: fewer bytes than the count and the last code have, 8 at 32 bits and 6 at 16 bits.
 pub const PACKET_TOO_SHORT: u32 = 6;
 /// Refusal: no sum, or more than [`MAX_THRESHOLD`].
 pub const SUMS_OUT_OF_RANGE: u32 = 7;
@@ -82,172 +80,19 @@ pub struct Number {
 /// A value, or a refusal and 0.
 #[repr(C)]
 #[derive(Clone, Copy, Debug, PartialEq, Eq)]
-pub struct Value {
+pub struct Value<Word> {
     /// The refusal, or [`OK`].
     pub refusal: u32,
     /// The value.
-    pub value: u32,
+    pub value: Word,
 }
 
 /// A power, and the number of field multiplications made for it.
 #[repr(C)]
 #[derive(Clone, Copy, Debug, PartialEq, Eq)]
-pub struct Power {
+pub struct Power<Word> {
     /// The power, a residue.
-    pub value: u32,
+    pub value: Word,
     /// The number of field multiplications made.
     pub multiplications: u32,
-}
-
-/// The declarations themselves.
-#[allow(missing_docs)]
-pub mod c {
-    use super::{Number, Power, Value};
-
-    extern "C" {
-        pub fn eddy32_new(threshold: usize, out: *mut u32, out_len: usize) -> u32;
-        pub fn eddy32_well_formed(s: *const u32, s_len: usize) -> u32;
-        pub fn eddy32_insert(s: *mut u32, s_len: usize, code: u32) -> u32;
-        pub fn eddy32_remove(s: *mut u32, s_len: usize, code: u32) -> u32;
-        pub fn eddy32_sub_assign(s: *mut u32, s_len: usize, rhs: *const u32, rhs_len: usize) -> u32;
-        pub fn eddy32_sub(
-            s: *const u32,
-            s_len: usize,
-            rhs: *const u32,
-            rhs_len: usize,
-            out: *mut u32,
-            out_len: usize,
-        ) -> u32;
-        pub fn eddy32_to_coeffs(s: *const u32, s_len: usize, coeffs: *mut u32, coeffs_len: usize) -> Number;
-        pub fn eddy32_eval(coeffs: *const u32, coeffs_len: usize, x: u32) -> Value;
-        pub fn eddy32_decode_with_log(
-            s: *const u32,
-            s_len: usize,
-            log: *const u32,
-            log_len: usize,
-            out: *mut u32,
-            out_len: usize,
-        ) -> Number;
-        pub fn eddy32_serialize(s: *const u32, s_len: usize, buf: *mut u8, buf_len: usize) -> Number;
-        pub fn eddy32_serialize_with_hint(
-            s: *const u32,
-            s_len: usize,
-            buf: *mut u8,
-            buf_len: usize,
-            hint: usize,
-        ) -> Number;
-        pub fn eddy32_deserialize(buf: *const u8, buf_len: usize, out: *mut u32, out_len: usize) -> u32;
-        pub fn eddy32_field_reduce(c: u32) -> u32;
-        pub fn eddy32_field_add(a: u32, b: u32) -> u32;
-        pub fn eddy32_field_sub(a: u32, b: u32) -> u32;
-        pub fn eddy32_field_neg(a: u32) -> u32;
-        pub fn eddy32_field_mul(a: u32, b: u32) -> u32;
-        pub fn eddy32_field_inv(a: u32) -> u32;
-        pub fn eddy32_field_pow(a: u32, e: u32) -> Power;
-        pub fn eddy32_field_pow_multiplications(e: u32) -> u32;
-    }
-}
-
-// SAFETY, of each call below: a pointer and its length are those of one slice, alive through the call, and a slice
-// lent for writing overlaps no other. The function takes every input, and touches nothing but the slices that it is
-// lent: that is its contract in the crate `exports32`.
-
-/// Makes a fresh sketch in the first words of `out`; the refusal.
-pub fn new(threshold: usize, out: &mut [u32]) -> u32 {
-    unsafe { c::eddy32_new(threshold, out.as_mut_ptr(), out.len()) }
-}
-
-/// 1 where `s` begins with the words of a well-formed sketch, otherwise 0.
-pub fn well_formed(s: &[u32]) -> u32 {
-    unsafe { c::eddy32_well_formed(s.as_ptr(), s.len()) }
-}
-
-/// Inserts a code; the refusal.
-pub fn insert(s: &mut [u32], code: u32) -> u32 {
-    unsafe { c::eddy32_insert(s.as_mut_ptr(), s.len(), code) }
-}
-
-/// Removes a code; the refusal.
-pub fn remove(s: &mut [u32], code: u32) -> u32 {
-    unsafe { c::eddy32_remove(s.as_mut_ptr(), s.len(), code) }
-}
-
-/// Subtracts `rhs` from `s`, in `s`; the refusal.
-pub fn sub_assign(s: &mut [u32], rhs: &[u32]) -> u32 {
-    unsafe { c::eddy32_sub_assign(s.as_mut_ptr(), s.len(), rhs.as_ptr(), rhs.len()) }
-}
-
-/// Writes `s` minus `rhs`, with the smaller threshold, to the first words of `out`; the refusal.
-pub fn sub(s: &[u32], rhs: &[u32], out: &mut [u32]) -> u32 {
-    unsafe { c::eddy32_sub(s.as_ptr(), s.len(), rhs.as_ptr(), rhs.len(), out.as_mut_ptr(), out.len()) }
-}
-
-/// Writes the coefficients, as many as the count, to the front of `coeffs`.
-pub fn to_coeffs(s: &[u32], coeffs: &mut [u32]) -> Number {
-    unsafe { c::eddy32_to_coeffs(s.as_ptr(), s.len(), coeffs.as_mut_ptr(), coeffs.len()) }
-}
-
-/// The value of the polynomial of the coefficients at `x`.
-pub fn eval(coeffs: &[u32], x: u32) -> Value {
-    unsafe { c::eddy32_eval(coeffs.as_ptr(), coeffs.len(), x) }
-}
-
-/// Writes the entries of the log that are in the sketch to the front of `out`, which needs as many places as the log.
-pub fn decode_with_log(s: &[u32], log: &[u32], out: &mut [u32]) -> Number {
-    unsafe { c::eddy32_decode_with_log(s.as_ptr(), s.len(), log.as_ptr(), log.len(), out.as_mut_ptr(), out.len()) }
-}
-
-/// Writes the sketch as a packet to the front of `buf`.
-pub fn serialize(s: &[u32], buf: &mut [u8]) -> Number {
-    unsafe { c::eddy32_serialize(s.as_ptr(), s.len(), buf.as_mut_ptr(), buf.len()) }
-}
-
-/// Writes the sketch as a packet with at most `hint` sums to the front of `buf`.
-pub fn serialize_with_hint(s: &[u32], buf: &mut [u8], hint: usize) -> Number {
-    unsafe { c::eddy32_serialize_with_hint(s.as_ptr(), s.len(), buf.as_mut_ptr(), buf.len(), hint) }
-}
-
-/// Reads a packet to the first words of `out`; the refusal.
-pub fn deserialize(buf: &[u8], out: &mut [u32]) -> u32 {
-    unsafe { c::eddy32_deserialize(buf.as_ptr(), buf.len(), out.as_mut_ptr(), out.len()) }
-}
-
-/// The residue of `c`.
-pub fn field_reduce(c: u32) -> u32 {
-    unsafe { c::eddy32_field_reduce(c) }
-}
-
-/// The residue of `a + b`.
-pub fn field_add(a: u32, b: u32) -> u32 {
-    unsafe { c::eddy32_field_add(a, b) }
-}
-
-/// The residue of `a - b`.
-pub fn field_sub(a: u32, b: u32) -> u32 {
-    unsafe { c::eddy32_field_sub(a, b) }
-}
-
-/// The residue of `-a`.
-pub fn field_neg(a: u32) -> u32 {
-    unsafe { c::eddy32_field_neg(a) }
-}
-
-/// The residue of `a` times `b`.
-pub fn field_mul(a: u32, b: u32) -> u32 {
-    unsafe { c::eddy32_field_mul(a, b) }
-}
-
-/// The inverse of `a`; 0 for 0.
-pub fn field_inv(a: u32) -> u32 {
-    unsafe { c::eddy32_field_inv(a) }
-}
-
-/// `a` to the power `e`, which is not reduced, and the number of multiplications made.
-pub fn field_pow(a: u32, e: u32) -> Power {
-    unsafe { c::eddy32_field_pow(a, e) }
-}
-
-/// The number of multiplications of [`field_pow`] alone.
-pub fn field_pow_multiplications(e: u32) -> u32 {
-    unsafe { c::eddy32_field_pow_multiplications(e) }
 }

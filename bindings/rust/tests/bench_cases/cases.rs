@@ -1,12 +1,15 @@
-//! The cases of the bench, through the crate's own calls.
-use eddybridge::field::{self, Power, Residue};
-use eddybridge::{eval, packet_len, PowerSumQuackU32, Refusal, MAX_PACKET_LEN, MAX_THRESHOLD};
+//! The cases that both widths have, over the names and numbers of the width that stands around them.
+use super::{Sketch, Word, NUMBERS};
+use eddybridge::field::{Power, Residue};
+use eddybridge::{eval, Refusal, MAX_THRESHOLD};
 
-fn fresh(threshold: usize) -> PowerSumQuackU32 {
-    PowerSumQuackU32::new(threshold).expect("a threshold from 1 to 32")
+const P: Word = NUMBERS.modulus;
+
+fn fresh(threshold: usize) -> Sketch {
+    Sketch::new(threshold).expect("a threshold from 1 to 32")
 }
 
-fn sketch_of(threshold: usize, values: &[u32]) -> PowerSumQuackU32 {
+fn sketch_of(threshold: usize, values: &[Word]) -> Sketch {
     let mut sketch = fresh(threshold);
     for &value in values {
         sketch.insert(value);
@@ -14,36 +17,39 @@ fn sketch_of(threshold: usize, values: &[u32]) -> PowerSumQuackU32 {
     sketch
 }
 
-fn packet_of(sketch: &PowerSumQuackU32) -> Vec<u8> {
-    let mut packet = vec![0; packet_len(sketch.threshold())];
+fn packet_of(sketch: &Sketch) -> Vec<u8> {
+    let mut packet = vec![0; Sketch::packet_len(sketch.threshold())];
     assert_eq!(sketch.serialize(&mut packet), Ok(packet.len()));
     packet
 }
 
 /// The sums, read from a packet. Inserting 0 leaves them as they are and gives the sketch a last value.
-fn sums_of(sketch: &PowerSumQuackU32) -> Vec<u32> {
+fn sums_of(sketch: &Sketch) -> Vec<Word> {
     let mut writable = sketch.clone();
     writable.insert(0);
     let packet = packet_of(&writable);
-    packet[8..].chunks_exact(4).map(|sum| u32::from_le_bytes(sum.try_into().expect("four bytes"))).collect()
+    let sums = packet[Sketch::packet_len(0)..].chunks_exact(size_of::<Word>());
+    sums.map(|sum| Word::from_le_bytes(sum.try_into().expect("the bytes of a sum"))).collect()
 }
 
-fn residues<const N: usize>(numbers: [u32; N]) -> [Residue; N] {
+fn residues<const N: usize>(numbers: [Word; N]) -> [Residue<Word>; N] {
     numbers.map(Residue::new)
 }
 
-fn packet_with_sum(sum: u32) -> Vec<u8> {
-    [1, 7, sum].iter().flat_map(|word: &u32| word.to_le_bytes()).collect()
+fn packet_with_sum(sum: Word) -> Vec<u8> {
+    let (count, last): (u32, Word) = (1, 7);
+    [&count.to_le_bytes()[..], &last.to_le_bytes(), &sum.to_le_bytes()].concat()
 }
 
 #[test]
 fn p1_residues() {
-    assert_eq!(residues([4294967290, 4294967291, 4294967295]).map(Residue::value), [4294967290, 0, 4]);
+    assert_eq!(residues([P - 1, P, Word::MAX]).map(Residue::value), [P - 1, 0, NUMBERS.residue_of_max]);
+    assert_eq!(Residue::<Word>::MODULUS, P);
 }
 
 #[test]
 fn p2_arithmetic() {
-    let [zero, one, last] = residues([0, 1, 4294967290]);
+    let [zero, one, last] = residues([0, 1, P - 1]);
     assert_eq!(last + one, zero);
     assert_eq!(zero - one, last);
     assert_eq!(last * last, one);
@@ -51,16 +57,16 @@ fn p2_arithmetic() {
 
 #[test]
 fn p3_inverses() {
-    assert_eq!(residues([2, 3, 4]).map(Residue::inv), residues([2147483646, 1431655764, 1073741823]));
-    assert_eq!(Residue::new(0).inv(), Residue::new(0));
+    assert_eq!(residues([2, 3, 4]).map(Residue::inv), residues(NUMBERS.inverses));
+    assert_eq!(residues([0]).map(Residue::inv), residues([0]));
 }
 
 #[test]
 fn p4_powers() {
-    assert_eq!(Residue::new(2).pow(10), Power { value: Residue::new(1024), multiplications: 4 });
-    for (exponent, multiplications) in [(0, 0), (1, 0), (4294967289, 60), (4294967295, 62)] {
-        assert_eq!(Residue::new(3).pow(exponent).multiplications, multiplications);
-        assert_eq!(field::pow_multiplications(exponent), multiplications);
+    assert_eq!(Residue::<Word>::new(2).pow(10), Power { value: Residue::new(1024), multiplications: 4 });
+    for (exponent, multiplications) in NUMBERS.multiplications {
+        assert_eq!(Residue::<Word>::new(3).pow(exponent).multiplications, multiplications);
+        assert_eq!(Residue::<Word>::pow_multiplications(exponent), multiplications);
     }
 }
 
@@ -68,7 +74,7 @@ fn p4_powers() {
 fn p5_sums_and_coefficients() {
     let sketch = sketch_of(3, &[10, 12]);
     assert_eq!(sums_of(&sketch), [22, 244, 2728]);
-    assert_eq!(sketch.to_coeffs().unwrap(), residues([4294967269, 120]));
+    assert_eq!(sketch.to_coeffs().unwrap(), residues([P - 22, 120]));
 }
 
 #[test]
@@ -87,8 +93,8 @@ fn p7_multiplicity_does_not_count() {
 fn p8_packet() {
     let sketch = sketch_of(2, &[1, 10]);
     let packet = packet_of(&sketch);
-    assert_eq!(packet, [2, 0, 0, 0, 0x0a, 0, 0, 0, 0x0b, 0, 0, 0, 0x65, 0, 0, 0]);
-    assert_eq!(PowerSumQuackU32::deserialize(&packet).unwrap(), sketch);
+    assert_eq!(packet, NUMBERS.packet);
+    assert_eq!(Sketch::deserialize(&packet).unwrap(), sketch);
 }
 
 #[test]
@@ -96,10 +102,10 @@ fn p9_count_below_zero() {
     let mut sketch = fresh(1);
     sketch.remove(1);
     assert_eq!(sketch.count(), 4294967295);
-    assert_eq!(sums_of(&sketch), [4294967290]);
-    let mut buf = [0xaa; 12];
+    assert_eq!(sums_of(&sketch), [P - 1]);
+    let mut buf = [0xaa; Sketch::packet_len(1)];
     assert_eq!(sketch.serialize(&mut buf), Err(Refusal::NoLastValue));
-    assert_eq!(buf, [0xaa; 12]);
+    assert_eq!(buf, [0xaa; Sketch::packet_len(1)]);
     assert_eq!(sketch.decode_with_log(&[1]), Err(Refusal::CountAboveThreshold));
     assert_eq!(sketch.to_coeffs(), Err(Refusal::CountAboveThreshold));
 }
@@ -108,7 +114,7 @@ fn p9_count_below_zero() {
 fn p10_count_zero_decodes_to_nothing() {
     let mut sketch = sketch_of(2, &[1]);
     sketch.remove(2);
-    assert_eq!(sums_of(&sketch), [4294967290, 4294967288]);
+    assert_eq!(sums_of(&sketch), [P - 1, P - 3]);
     assert_eq!(sketch.count(), 0);
     assert_eq!(sketch.last_value(), Some(1));
     assert_eq!(sketch.decode_with_log(&[1, 2]).unwrap(), []);
@@ -116,32 +122,32 @@ fn p10_count_zero_decodes_to_nothing() {
 
 #[test]
 fn p11_last_value_is_compared_unreduced() {
-    let mut sketch = sketch_of(2, &[4294967295]);
-    sketch.remove(4294967295);
+    let mut sketch = sketch_of(2, &[Word::MAX]);
+    sketch.remove(Word::MAX);
     assert_eq!(sums_of(&sketch), [0, 0]);
-    assert_eq!(sketch.last_value(), Some(4));
+    assert_eq!(sketch.last_value(), Some(NUMBERS.residue_of_max));
 
-    let mut other = sketch_of(2, &[4294967295]);
-    other.remove(4);
+    let mut other = sketch_of(2, &[Word::MAX]);
+    other.remove(NUMBERS.residue_of_max);
     assert_eq!(sums_of(&other), [0, 0]);
     assert_eq!(other.last_value(), None);
 }
 
 #[test]
 fn p12_lengths_of_packets() {
-    let bytes = [0; 140];
-    let read = |length: usize| PowerSumQuackU32::deserialize(&bytes[..length]);
-    assert_eq!(read(7), Err(Refusal::PacketTooShort));
-    assert_eq!(read(8), Err(Refusal::SumsOutOfRange));
-    assert_eq!(read(11), Err(Refusal::SumsOutOfRange));
-    assert_eq!(read(140), Err(Refusal::SumsOutOfRange));
-    assert_eq!(read(12).unwrap().threshold(), 1);
-    assert_eq!(read(139).unwrap().threshold(), 32);
+    let bytes = [0; NUMBERS.too_long];
+    let read = |length: usize| Sketch::deserialize(&bytes[..length]);
+    assert_eq!(read(NUMBERS.too_short), Err(Refusal::PacketTooShort));
+    for length in NUMBERS.without_sum {
+        assert_eq!(read(length), Err(Refusal::SumsOutOfRange));
+    }
+    assert_eq!(read(NUMBERS.too_long), Err(Refusal::SumsOutOfRange));
+    assert_eq!(NUMBERS.read.map(|(length, _)| read(length).unwrap().threshold()), NUMBERS.read.map(|(_, sums)| sums));
 }
 
 #[test]
 fn count_at_and_above_the_greatest_threshold() {
-    let log: Vec<u32> = (1..=33).collect();
+    let log: Vec<Word> = (1..=33).collect();
     let mut sketch = sketch_of(32, &log[..32]);
     assert_eq!(sketch.decode_with_log(&log).unwrap(), log[..32]);
     sketch.insert(33);
@@ -150,15 +156,25 @@ fn count_at_and_above_the_greatest_threshold() {
 
 #[test]
 fn sums_of_a_packet_are_below_the_modulus() {
-    let read = PowerSumQuackU32::deserialize(&packet_with_sum(field::MODULUS - 1)).unwrap();
-    assert_eq!(sums_of(&read), [4294967290]);
-    assert_eq!(PowerSumQuackU32::deserialize(&packet_with_sum(field::MODULUS)), Err(Refusal::NotReduced));
+    let read = Sketch::deserialize(&packet_with_sum(P - 1)).unwrap();
+    assert_eq!(sums_of(&read), [P - 1]);
+    assert_eq!(Sketch::deserialize(&packet_with_sum(P)), Err(Refusal::NotReduced));
+}
+
+#[test]
+fn counts_have_32_bits() {
+    let mut packet = packet_with_sum(5);
+    packet[..4].copy_from_slice(&0xfedc_ffff_u32.to_le_bytes());
+    let mut sketch = Sketch::deserialize(&packet).unwrap();
+    assert_eq!(sketch.count(), 0xfedc_ffff);
+    sketch.insert(1);
+    assert_eq!(sketch.count(), 0xfedd_0000);
 }
 
 #[test]
 fn thresholds_out_of_range() {
     for threshold in [0, 33, usize::MAX] {
-        assert_eq!(PowerSumQuackU32::new(threshold), Err(Refusal::ThresholdOutOfRange));
+        assert_eq!(Sketch::new(threshold), Err(Refusal::ThresholdOutOfRange));
     }
 }
 
@@ -182,9 +198,9 @@ fn subtractions() {
 fn sketches_are_equal_however_they_came_about() {
     for threshold in 1..=32 {
         let sketch = sketch_of(threshold, &[1, 10]);
-        assert_eq!(PowerSumQuackU32::deserialize(&packet_of(&sketch)).unwrap(), sketch);
+        assert_eq!(Sketch::deserialize(&packet_of(&sketch)).unwrap(), sketch);
         assert_eq!(
-            PowerSumQuackU32::deserialize(&packet_of(&sketch_of(32, &[1, 10]))[..packet_len(threshold)]).unwrap(),
+            Sketch::deserialize(&packet_of(&sketch_of(32, &[1, 10]))[..Sketch::packet_len(threshold)]).unwrap(),
             sketch
         );
         let mut rest = sketch.clone();
@@ -201,7 +217,8 @@ fn sketches_are_equal_however_they_came_about() {
 fn hints_cut_the_sums_and_nothing_else() {
     let sketch = sketch_of(2, &[1, 10]);
     let whole = packet_of(&sketch);
-    for (hint, length) in [(0, 8), (1, 12), (2, 16), (3, 16), (usize::MAX, 16)] {
+    let [none, one, both] = NUMBERS.packet_lengths;
+    for (hint, length) in [(0, none), (1, one), (2, both), (3, both), (usize::MAX, both)] {
         let mut buf = [0xaa; 20];
         assert_eq!(sketch.serialize_with_hint(&mut buf, hint), Ok(length));
         assert_eq!(buf[..length], whole[..length]);
@@ -212,11 +229,12 @@ fn hints_cut_the_sums_and_nothing_else() {
 #[test]
 fn short_buffers_stay_unchanged() {
     let sketch = sketch_of(2, &[1, 10]);
-    let mut buf = [0xaa; 15];
+    let [none, _, both] = NUMBERS.packet_lengths;
+    let mut buf = vec![0xaa; both - 1];
     assert_eq!(sketch.serialize(&mut buf), Err(Refusal::BufferTooShort));
     assert_eq!(sketch.serialize(&mut []), Err(Refusal::BufferTooShort));
-    assert_eq!(sketch.serialize_with_hint(&mut buf[..7], 0), Err(Refusal::BufferTooShort));
-    assert_eq!(buf, [0xaa; 15]);
+    assert_eq!(sketch.serialize_with_hint(&mut buf[..none - 1], 0), Err(Refusal::BufferTooShort));
+    assert_eq!(buf, vec![0xaa; both - 1]);
 }
 
 #[test]
@@ -224,7 +242,7 @@ fn empty_logs_and_packets() {
     assert_eq!(sketch_of(2, &[1]).decode_with_log(&[]).unwrap(), []);
     assert_eq!(sketch_of(2, &[1]).decode_into(&[], &mut []), Ok(0));
     assert_eq!(fresh(2).to_coeffs().unwrap(), []);
-    assert_eq!(PowerSumQuackU32::deserialize(&[]), Err(Refusal::PacketTooShort));
+    assert_eq!(Sketch::deserialize(&[]), Err(Refusal::PacketTooShort));
 }
 
 #[test]
@@ -241,56 +259,38 @@ fn decoding_into_a_lent_slice() {
 
 #[test]
 fn lengths_and_limits() {
-    assert_eq!((MAX_THRESHOLD, MAX_PACKET_LEN), (32, 136));
+    let [none, one, _] = NUMBERS.packet_lengths;
+    assert_eq!((MAX_THRESHOLD, Sketch::MAX_PACKET_LEN), (32, none + 32 * (one - none)));
     for threshold in 1..=MAX_THRESHOLD {
-        let mut buf = [0; MAX_PACKET_LEN];
-        assert_eq!(sketch_of(threshold, &[1]).serialize(&mut buf), Ok(packet_len(threshold)));
+        let mut buf = [0; Sketch::MAX_PACKET_LEN];
+        assert_eq!(sketch_of(threshold, &[1]).serialize(&mut buf), Ok(Sketch::packet_len(threshold)));
     }
 }
 
 #[test]
 fn residues_in_place_and_as_numbers() {
-    let mut residue = Residue::from(5);
-    residue += Residue::new(4294967290);
+    let mut residue = Residue::<Word>::from(5);
+    residue += Residue::new(P - 1);
     assert_eq!(residue, Residue::new(4));
     residue -= Residue::new(6);
     assert_eq!(residue, -Residue::new(2));
-    residue *= Residue::new(2147483646);
-    assert_eq!(u32::from(residue), 4294967290);
-    assert_eq!(residue.to_string(), "4294967290");
-    assert_eq!(-Residue::default(), Residue::new(field::MODULUS));
+    residue *= Residue::new(NUMBERS.inverses[0]);
+    assert_eq!(Word::from(residue), P - 1);
+    assert_eq!(residue.to_string(), (P - 1).to_string());
+    assert_eq!(-Residue::default(), Residue::new(P));
 }
 
 #[test]
 fn evaluation() {
     let coeffs = sketch_of(3, &[10, 12]).to_coeffs().unwrap();
-    let [zero, minus_one, last] = residues([0, 4294967290, 120]);
+    let [zero, minus_one, last] = residues([0, P - 1, 120]);
     assert_eq!([10, 12, 11].map(|x| eval(&coeffs, x)), [Ok(zero), Ok(zero), Ok(minus_one)]);
-    assert_eq!(eval(&coeffs, 4294967291), Ok(last));
-    assert_eq!(eval(&[], 1), Err(Refusal::NoCoefficient));
-}
-
-#[test]
-fn refusals_have_their_numbers() {
-    for number in 1..=12 {
-        let refusal = Refusal::from_number(number).unwrap();
-        assert_eq!(refusal.number(), number);
-        assert!(refusal.to_string().ends_with(&format!("(refusal {number})")));
-    }
-    assert_eq!(Refusal::from_number(0), None);
-    assert_eq!(Refusal::from_number(13), None);
-}
-
-#[test]
-fn refusals_are_errors() {
-    fn make(threshold: usize) -> Result<PowerSumQuackU32, Box<dyn std::error::Error + Send + Sync>> {
-        Ok(PowerSumQuackU32::new(threshold)?)
-    }
-    assert_eq!(make(0).unwrap_err().to_string(), "the threshold is 0 or above 32 (refusal 1)");
+    assert_eq!(eval(&coeffs, P), Ok(last));
+    assert_eq!(eval::<Word>(&[], 1), Err(Refusal::NoCoefficient));
 }
 
 #[test]
 fn debugging_shows_the_sketch() {
     let shown = format!("{:?}", sketch_of(2, &[1, 10]));
-    assert_eq!(shown, "PowerSumQuackU32 { power_sums: [11, 101], last_value: Some(10), count: 2 }");
+    assert_eq!(shown, format!("{} {{ power_sums: [11, 101], last_value: Some(10), count: 2 }}", NUMBERS.name));
 }
