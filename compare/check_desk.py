@@ -13,7 +13,9 @@ import sys
 from collections import Counter
 from concurrent.futures import ThreadPoolExecutor
 
-from second import CODES, LOG_LINES, P, desk_answer
+from second import BITS32, LOG_LINES, desk_answer
+
+CODES, P = BITS32.codes(), BITS32.modulus
 
 EDGES = [0, 1, 2, 4, P - 1, P, P + 1, P + 4, CODES - 1]
 BAD_NUMBERS = [b"", b"00", b"01", b"0000000001", b"4294967296", b"4294967300", b"9999999999", b"10000000000",

@@ -1,78 +1,104 @@
 #!/usr/bin/env python3
-"""The second program: every rule of the requirements, over plain integers.
+"""The second program: every rule of the requirements, over plain integers and over a kind of codes.
 
-It is written from the requirements alone, and for words from include/eddybridge32.h, and shares no line with the
-verified code, nor with the Rust that the code is ported from. Its answers are what both are held to. Each section
-below carries their heading; a sentence of theirs stands above the lines that say it.
+It is written from the requirements alone, and for words from include/eddybridge32.h and include/eddybridge16.h, and
+shares no line with the verified code, nor with the Rust that the code is ported from. Its answers are what both are
+held to. Each section below carries their heading; a sentence of theirs stands above the lines that say it.
 
 A refusal is its number. A call that may refuse answers the number first, then what the requirements say it hands
 back: the sketch given, or 0. Lent buffers are Python lists and bytearrays, changed in place.
 
-Run as a program, it checks itself against the bench's cases P1 to P12 and prints one line; as `second.py desk` it
-answers standard input as the desk program must.
+Run as a program, it checks itself against the bench's cases at each width and prints one line; as `second.py desk` it
+answers standard input as the desk program must, which is a program of 32-bit codes.
 """
 import sys
 from dataclasses import dataclass, field
 from typing import List, Optional
 
+# ---- The kinds
+
+
+@dataclass(frozen=True)
+class Kind:
+    """All that differs between the widths."""
+    modulus: int
+    code_bytes: int
+    greatest: int
+    exponent_bits: int
+    count_words: int
+
+    def codes(self):
+        """How many codes there are. A word holds as many numbers."""
+        return 256 ** self.code_bytes
+
+
+BITS32 = Kind(modulus=4294967291, code_bytes=4, greatest=32, exponent_bits=32, count_words=1)
+BITS16 = Kind(modulus=65521, code_bytes=2, greatest=32, exponent_bits=16, count_words=2)
+
+# The count is below this number, and takes as many bytes of a packet, at every width.
+COUNTS = 2 ** 32
+COUNT_BYTES = 4
+
+
 # ---- Codes and residues
 
-P = 4294967291
-CODES = 2 ** 32
 
-
-def residue(code):
+def residue(kind, code):
     """The code if below p, else the code minus p."""
-    return code if code < P else code - P
+    return code if code < kind.modulus else code - kind.modulus
 
 
-def add(a, b):
-    return (residue(a) + residue(b)) % P
+def add(kind, a, b):
+    """a + b."""
+    return (residue(kind, a) + residue(kind, b)) % kind.modulus
 
 
-def subtract(a, b):
-    return (residue(a) - residue(b)) % P
+def subtract(kind, a, b):
+    """a - b."""
+    return (residue(kind, a) - residue(kind, b)) % kind.modulus
 
 
-def negate(a):
-    return -residue(a) % P
+def negate(kind, a):
+    """-a."""
+    return -residue(kind, a) % kind.modulus
 
 
-def multiply(a, b):
-    return residue(a) * residue(b) % P
+def multiply(kind, a, b):
+    """a times b."""
+    return residue(kind, a) * residue(kind, b) % kind.modulus
 
 
-def power(a, exponent):
+def power(kind, a, exponent):
     """The power and the number of multiplications made. The exponent is halved until it is 0 or 1; on the way
     back the power is squared, and multiplied once more where the exponent is odd. It is never reduced."""
     if exponent == 0:
         return 1, 0
     if exponent == 1:
-        return residue(a), 0
-    half, made = power(a, exponent // 2)
-    square = half * half % P
+        return residue(kind, a), 0
+    half, made = power(kind, a, exponent // 2)
+    square = half * half % kind.modulus
     if exponent % 2 == 0:
         return square, made + 1
-    return square * residue(a) % P, made + 2
+    return square * residue(kind, a) % kind.modulus, made + 2
 
 
-def power_multiplications(exponent):
-    """The number alone: (31 - leading zeros) + (ones - 1) of a 32-bit exponent of 1 or more, and 0 at 0."""
+def power_multiplications(kind, exponent):
+    """The number alone, for an exponent of 1 or more: the exponent's bits less 1 less its leading zeros, and its ones
+    less 1; and 0 at 0."""
     if exponent == 0:
         return 0
-    leading_zeros = 32 - exponent.bit_length()
+    leading_zeros = kind.exponent_bits - exponent.bit_length()
     ones = bin(exponent).count("1")
-    return (31 - leading_zeros) + (ones - 1)
+    return (kind.exponent_bits - 1 - leading_zeros) + (ones - 1)
 
 
-def inverse(a):
+def inverse(kind, a):
     """The power p - 2, so the inverse of 0 is 0."""
-    return power(a, P - 2)[0]
+    return power(kind, a, kind.modulus - 2)[0]
 
 
-# The greatest threshold, and the table of as many inverses: entry i is the inverse of i + 1.
-GREATEST = 32
-INVERSES = [inverse(i + 1) for i in range(GREATEST)]
+# For each kind as many inverses as the greatest threshold: entry i is the inverse of i + 1.
+INVERSES = {kind: [inverse(kind, i + 1) for i in range(kind.greatest)] for kind in (BITS32, BITS16)}
 
 
 # ---- The sketch
@@ -80,7 +106,8 @@ INVERSES = [inverse(i + 1) for i in range(GREATEST)]
 
 @dataclass(frozen=True)
 class Sketch:
-    """T, the 32 places of which the first T are the sums, the count, and the last code or None."""
+    """T, the places of which the first T are the sums, the count, and the last code or None, of a kind."""
+    kind: Kind
     threshold: int
     places: tuple
     count: int
@@ -90,64 +117,70 @@ class Sketch:
         return self.places[:self.threshold]
 
 
-def filled(sums):
-    """The sums with zeros behind them, 32 places in all."""
-    return tuple(sums) + (0,) * (GREATEST - len(sums))
+def filled(kind, sums):
+    """The sums with zeros behind them, as many places in all as the greatest threshold."""
+    return tuple(sums) + (0,) * (kind.greatest - len(sums))
 
 
-# What make and read hand back when they refuse.
-NO_SKETCH = Sketch(0, filled([]), 0, None)
+def no_sketch(kind):
+    """What make and read hand back when they refuse."""
+    return Sketch(kind, 0, filled(kind, []), 0, None)
 
 
 def well_formed(s):
     """T in range, the sums and any last code below p, unused places 0."""
-    return (1 <= s.threshold <= GREATEST
-            and all(place < P for place in s.places[:s.threshold])
-            and all(place == 0 for place in s.places[s.threshold:])
-            and (s.last is None or s.last < P))
+    p = s.kind.modulus
+    return (1 <= s.threshold <= s.kind.greatest
+            and max(s.places[:s.threshold]) < p
+            and not any(s.places[s.threshold:])
+            and (s.last is None or s.last < p))
 
 
-def make(threshold):
-    if not 1 <= threshold <= GREATEST:
-        return 1, NO_SKETCH
-    return 0, Sketch(threshold, filled([0] * threshold), 0, None)
+def make(kind, threshold):
+    """A fresh one has sums 0, count 0, no last code."""
+    if not 1 <= threshold <= kind.greatest:
+        return 1, no_sketch(kind)
+    return 0, Sketch(kind, threshold, filled(kind, [0] * threshold), 0, None)
 
 
-def powers(x, n):
+def powers(kind, x, n):
     """x^1 to x^n modulo p."""
-    out, y = [], 1
+    out, y, p = [], 1, kind.modulus
     for _ in range(n):
-        y = y * x % P
+        y = y * x % p
         out.append(y)
     return out
 
 
 def insert(s, code):
+    """Sum k grows by x^k modulo p, the count by 1 modulo 2^32, last becomes x."""
     if not well_formed(s):
         return 12, s
-    x = residue(code)
-    sums = [(a + b) % P for a, b in zip(s.sums(), powers(x, s.threshold))]
-    return 0, Sketch(s.threshold, filled(sums), (s.count + 1) % CODES, x)
+    x, p = residue(s.kind, code), s.kind.modulus
+    sums = [(a + b) % p for a, b in zip(s.sums(), powers(s.kind, x, s.threshold))]
+    return 0, Sketch(s.kind, s.threshold, filled(s.kind, sums), (s.count + 1) % COUNTS, x)
 
 
 def remove(s, code):
+    """Sum k falls by x^k, the count by 1 modulo 2^32."""
     if not well_formed(s):
         return 12, s
-    x = residue(code)
-    sums = [(a - b) % P for a, b in zip(s.sums(), powers(x, s.threshold))]
+    x, p = residue(s.kind, code), s.kind.modulus
+    sums = [(a - b) % p for a, b in zip(s.sums(), powers(s.kind, x, s.threshold))]
     # The stored last code is compared with the code as given, unreduced.
     last = None if s.last == code else s.last
-    return 0, Sketch(s.threshold, filled(sums), (s.count - 1) % CODES, last)
+    return 0, Sketch(s.kind, s.threshold, filled(s.kind, sums), (s.count - 1) % COUNTS, last)
 
 
 def difference(s, rhs):
     """Both subtractions where nothing is refused: the smaller threshold stays, further sums are dropped."""
     threshold = min(s.threshold, rhs.threshold)
-    sums = [(a - b) % P for a, b in zip(s.sums(), rhs.sums())]
-    return Sketch(threshold, filled(sums), (s.count - rhs.count) % CODES, None)
+    sums = [(a - b) % s.kind.modulus for a, b in zip(s.sums(), rhs.sums())]
+    return Sketch(s.kind, threshold, filled(s.kind, sums), (s.count - rhs.count) % COUNTS, None)
 
 
 def sub_assign(s, rhs):
+    """Subtract in place: thresholds must agree."""
     if not (well_formed(s) and well_formed(rhs)):
         return 12, s
     if s.threshold != rhs.threshold:
@@ -156,6 +189,7 @@ def sub_assign(s, rhs):
 
 
 def sub(s, rhs):
+    """The other form, which keeps the smaller threshold."""
     if not (well_formed(s) and well_formed(rhs)):
         return 12, s
     return 0, difference(s, rhs)
@@ -163,10 +197,10 @@ def sub(s, rhs):
 
 def newton(s):
     """a1 = -s1, and ai = (-(s1 a(i-1) + .. + s(i-1) a1) - si) times the inverse of i, i from 2 to the count."""
-    sums, coefficients = s.sums(), []
+    sums, inverses, coefficients = s.sums(), INVERSES[s.kind], []
     for i in range(1, s.count + 1):
-        products = sum(sums[j - 1] * coefficients[i - j - 1] for j in range(1, i))
-        coefficients.append((-products - sums[i - 1]) * INVERSES[i - 1] % P)
+        products = sum(a * b for a, b in zip(sums, reversed(coefficients)))
+        coefficients.append((-products - sums[i - 1]) * inverses[i - 1] % s.kind.modulus)
     return coefficients
 
 
@@ -182,19 +216,37 @@ def to_coeffs(s, buffer):
     return 0, s.count
 
 
-def value_at(coefficients, x):
-    """x^n + a1 x^(n-1) + .. + an at a residue x, by the powers of x as the requirements write it."""
-    n = len(coefficients)
-    ladder = [1] + powers(x, n)
-    return (ladder[n] + sum(a * ladder[n - i] for i, a in enumerate(coefficients, 1))) % P
+def value_at(kind, coefficients, x):
+    """x^n + a1 x^(n-1) + .. + an at a residue x, each term and each sum of terms reduced."""
+    n, p = len(coefficients), kind.modulus
+    ladder = [1] + powers(kind, x, n)
+    value = ladder[n]
+    for i, a in enumerate(coefficients, 1):
+        value = (value + a * ladder[n - i] % p) % p
+    return value
 
 
-def evaluate(coefficients, code):
+def evaluate(kind, coefficients, code):
+    """The value of the coefficients at a code, of any number of coefficients."""
     if len(coefficients) == 0:
         return 11, 0
-    if any(a >= P for a in coefficients):
+    if any(a >= kind.modulus for a in coefficients):
         return 8, 0
-    return 0, value_at(coefficients, residue(code))
+    return 0, value_at(kind, coefficients, residue(kind, code))
+
+
+def eval_precompute(kind, coefficients, code):
+    """The same value with all products of a coefficient and a reduced power formed first, and their sum reduced once."""
+    n = len(coefficients)
+    if n == 0:
+        return 11, 0
+    if n > kind.greatest:
+        return 4, 0
+    if any(a >= kind.modulus for a in coefficients):
+        return 8, 0
+    ladder = [1] + powers(kind, residue(kind, code), n)
+    products = [a * b for a, b in zip([1, *coefficients], reversed(ladder))]
+    return 0, sum(products) % kind.modulus
 
 
 def decode(s, log, buffer):
@@ -209,84 +261,101 @@ def decode(s, log, buffer):
     if s.count == 0:
         return 0, 0
     coefficients = newton(s)
-    found = [code for code in log if value_at(coefficients, residue(code)) == 0]
+    found = [code for code in log if value_at(s.kind, coefficients, residue(s.kind, code)) == 0]
     buffer[:len(found)] = found
     return 0, len(found)
 
 
 # ---- The packet
 
-HEAD = 8
+
+def head_bytes(kind):
+    """The bytes before the sums: those of the count and of the last code."""
+    return COUNT_BYTES + kind.code_bytes
 
 
-def number_at(data, at):
-    """Four bytes, little-endian."""
-    return data[at] + 256 * data[at + 1] + 65536 * data[at + 2] + 16777216 * data[at + 3]
+def number_in(data):
+    """The number that bytes say, the lowest first."""
+    return sum(byte * 256 ** k for k, byte in enumerate(data))
 
 
-def bytes_of(number):
-    return [number // 256 ** k % 256 for k in range(4)]
+def bytes_of(number, length):
+    """A number in as many bytes, the lowest first."""
+    return [number // 256 ** k % 256 for k in range(length)]
+
+
+def packet(kind, count, last, sums):
+    """Count, last code, sums, each number lowest byte first."""
+    codes = [byte for number in (last, *sums) for byte in bytes_of(number, kind.code_bytes)]
+    return bytes(bytes_of(count, COUNT_BYTES) + codes)
 
 
 def write(s, buffer, hint=None):
-    """Count, last code, then min(T, hint) sums, four bytes each. The answer is the number of bytes written;
-    bytes beyond them stay."""
+    """The packet with min(T, hint) sums. The answer is the number of bytes written; bytes beyond them stay."""
     if not well_formed(s):
         return 12, 0
     if s.last is None:
         return 3, 0
     taken = s.threshold if hint is None else min(s.threshold, hint)
-    packet = []
-    for number in (s.count, s.last) + s.places[:taken]:
-        packet += bytes_of(number)
-    if len(buffer) < len(packet):
+    written = packet(s.kind, s.count, s.last, s.places[:taken])
+    if len(buffer) < len(written):
         return 5, 0
-    buffer[:len(packet)] = bytes(packet)
-    return 0, len(packet)
+    buffer[:len(written)] = written
+    return 0, len(written)
 
 
-def read(data):
-    """(length - 8) / 4 sums, rounded down; up to three trailing bytes are ignored. The last code is reduced."""
-    if len(data) < HEAD:
-        return 6, NO_SKETCH
-    threshold = (len(data) - HEAD) // 4
-    if not 1 <= threshold <= GREATEST:
-        return 7, NO_SKETCH
-    sums = [number_at(data, HEAD + 4 * k) for k in range(threshold)]
-    if any(one >= P for one in sums):
-        return 8, NO_SKETCH
-    return 0, Sketch(threshold, filled(sums), number_at(data, 0), residue(number_at(data, 4)))
+def read(kind, data):
+    """As many sums as the bytes behind the head hold, rounded down; further bytes are ignored. The last code is
+    reduced."""
+    head, width = head_bytes(kind), kind.code_bytes
+    if len(data) < head:
+        return 6, no_sketch(kind)
+    threshold = (len(data) - head) // width
+    if not 1 <= threshold <= kind.greatest:
+        return 7, no_sketch(kind)
+    sums = [number_in(data[head + width * k:head + width * (k + 1)]) for k in range(threshold)]
+    if any(one >= kind.modulus for one in sums):
+        return 8, no_sketch(kind)
+    last = residue(kind, number_in(data[COUNT_BYTES:head]))
+    return 0, Sketch(kind, threshold, filled(kind, sums), number_in(data[:COUNT_BYTES]), last)
 
 
 # ---- The words of a sketch
 
-# Threshold, count, mark, last code; then the sums.
-HEAD_WORDS = 4
+
+def head_words(kind):
+    """The words before the sums: threshold, count, mark, last code."""
+    return 3 + kind.count_words
 
 
-def sketch_in(words):
-    """The sketch of threshold T that the first 4 + T words say: the threshold, the count, 1 and the last code or 0 and
-    0, the T sums. None where they say none, or are fewer than 4 + T, or than 4. What stands behind them is not read."""
-    if len(words) < HEAD_WORDS:
+def sketch_in(kind, words):
+    """The sketch of threshold T that the first words say: the threshold, the count, its lowest part first, 1 and the
+    last code or 0 and 0, the T sums. None where they say none, or are fewer than these, or than those before the sums.
+    What stands behind them is not read."""
+    head = head_words(kind)
+    if len(words) < head:
         return None
-    threshold, count, mark, last = words[:HEAD_WORDS]
-    if len(words) < HEAD_WORDS + threshold:
+    threshold, *parts, mark, last = words[:head]
+    if len(words) < head + threshold:
         return None
     if (mark, last) != (0, 0) and mark != 1:
         return None
-    sums = words[HEAD_WORDS:HEAD_WORDS + threshold]
-    s = Sketch(threshold, filled(sums), count, last if mark == 1 else None)
+    count = sum(part * kind.codes() ** k for k, part in enumerate(parts))
+    sums = words[head:head + threshold]
+    s = Sketch(kind, threshold, filled(kind, sums), count, last if mark == 1 else None)
     return s if well_formed(s) else None
 
 
 def words_of(s):
+    """The words of a sketch, as many as it takes."""
+    parts = [s.count // s.kind.codes() ** k % s.kind.codes() for k in range(s.kind.count_words)]
     mark, last = (0, 0) if s.last is None else (1, s.last)
-    return [s.threshold, s.count, mark, last, *s.sums()]
+    return [s.threshold, *parts, mark, last, *s.sums()]
 
 
-def on_words(call, words, *further):
+def on_words(kind, call, words, *further):
     """A call on the sketch that words say; 12 where they say none."""
-    s = sketch_in(words)
+    s = sketch_in(kind, words)
     return (12, 0) if s is None else call(s, *further)
 
 
@@ -303,15 +372,16 @@ def to_words(answer, words):
     return 0
 
 
-def both_on_words(call, words, rhs):
+def both_on_words(kind, call, words, rhs):
     """A subtraction of the sketches that words say: 12 for either."""
-    right = sketch_in(rhs)
-    return (12, 0) if right is None else on_words(call, words, right)
+    right = sketch_in(kind, rhs)
+    return (12, 0) if right is None else on_words(kind, call, words, right)
 
 
 # ---- The desk program
 
 LOG_LINES = 8192
+GREATEST_NUMBER = 4294967295
 
 
 def decimal(digits):
@@ -320,8 +390,8 @@ def decimal(digits):
         return None
     if len(digits) > 1 and digits[0] == 0x30:
         return None
-    number = int(bytes(digits).decode("ascii")) if len(digits) <= 10 else CODES
-    return number if number < CODES else None
+    number = int(bytes(digits).decode("ascii")) if len(digits) <= 10 else GREATEST_NUMBER + 1
+    return number if number <= GREATEST_NUMBER else None
 
 
 def after_key(line, key):
@@ -344,7 +414,7 @@ class Desk:
             if number is None:
                 return 9
             self.threshold = number
-            return 0 if 1 <= number <= GREATEST else 1
+            return make(BITS32, number)[0]
         number = after_key(line, b"log")
         if number is not None and not self.got:
             if len(self.log) == LOG_LINES:
@@ -358,8 +428,9 @@ class Desk:
         return 0
 
 
-def sketch_of(threshold, codes):
-    s = make(threshold)[1]
+def sketch_of(kind, threshold, codes):
+    """A fresh sketch with codes inserted."""
+    s = make(kind, threshold)[1]
     for code in codes:
         s = insert(s, code)[1]
     return s
@@ -381,7 +452,7 @@ def desk_answer(data):
     refusal, desk = desk_lines(data)
     if refusal:
         return b"refusal=%d\n" % refusal
-    s = sub_assign(sketch_of(desk.threshold, desk.log), sketch_of(desk.threshold, desk.got))[1]
+    s = sub_assign(sketch_of(BITS32, desk.threshold, desk.log), sketch_of(BITS32, desk.threshold, desk.got))[1]
     buffer = list(desk.log)
     refusal, found = decode(s, desk.log, buffer)
     if refusal:
@@ -392,71 +463,161 @@ def desk_answer(data):
 
 # ---- Cases from the bench
 
+# Each case is a name, what this program answers, and what the requirements say.
+
 
 def listed(s, log):
+    """What a decoding lists, or its refusal."""
     buffer = [0] * len(log)
     refusal, n = decode(s, log, buffer)
     return buffer[:n] if refusal == 0 else refusal
 
 
-def packet_of(sums, count=1, last=1):
-    return bytes(b for number in (count, last, *sums) for b in bytes_of(number))
+def coefficients_of(s, room):
+    """What a call for coefficients answers, and a buffer of sevens after it."""
+    buffer = [7] * room
+    return to_coeffs(s, buffer), buffer
 
 
-def word_cases():
-    """P5's sketch in words: exactly as many, with others behind them, and too few; what is no mark of a last code."""
-    p5 = [3, 2, 1, 12, 22, 244, 2728]
-    yield "words", words_of(sketch_of(3, [10, 12])), p5
-    for behind in ([], [0], [P, 7]):
-        words = p5 + behind
-        refusal = to_words(on_words(insert, words, 1), words)
-        yield "words", (refusal, words), (0, [3, 3, 1, 1, 23, 245, 2729] + behind)
-    for length in range(len(p5)):
-        words = p5[:length]
-        yield "words", (on_words(insert, words, 1)[0], to_words(make(3), words), words), (12, 5, p5[:length])
-    for head in ([3, 2, 2, 12], [3, 2, 0, 12], [3, 2, 1, P], [0, 2, 1, 12], [33, 2, 1, 12], [2 ** 31, 2, 1, 12]):
-        yield "words", sketch_in(head + [0] * GREATEST + [0]), None
-    yield "words", sketch_in([3, 2, 0, 0, 22, 244, 2728, P]).last, None
-    yield "words", both_on_words(sub, p5, p5[:6])[0], 12
+def packet_of(s, room):
+    """What a writing answers, and the bytes after it."""
+    buffer = bytearray(room)
+    return write(s, buffer), buffer.hex(" ")
+
+
+def read_thresholds(kind, lengths):
+    """The refusal and the threshold of packets of zeros of some lengths."""
+    answers = [read(kind, bytes(length)) for length in lengths]
+    return [(refusal, s.threshold) for refusal, s in answers]
+
+
+def field_cases_32():
+    """P1 to P4."""
+    yield "P1", [residue(BITS32, c) for c in (4294967290, 4294967291, 4294967295)], [4294967290, 0, 4]
+    yield "P2", [add(BITS32, 4294967290, 1), subtract(BITS32, 0, 1)], [0, 4294967290]
+    yield "P2", multiply(BITS32, 4294967290, 4294967290), 1
+    yield "P3", [inverse(BITS32, i) for i in (2, 3, 4)], [2147483646, 1431655764, 1073741823]
+    yield "P4", power(BITS32, 2, 10), (1024, 4)
+    for exponent, made in ((4294967289, 60), (4294967295, 62)):
+        yield "P4", (power(BITS32, 2, exponent)[1], power_multiplications(BITS32, exponent)), (made, made)
+
+
+def sketch_cases_32():
+    """P5 to P12, the case without a number, and the desk's example."""
+    p5 = sketch_of(BITS32, 3, [10, 12])
+    yield "P5", p5.sums(), (22, 244, 2728)
+    yield "P5", coefficients_of(p5, 3), ((0, 2), [4294967269, 120, 7])
+    yield "P6", listed(p5, [1, 2, 10, 12, 10]), [10, 12, 10]
+    yield "P7", listed(sketch_of(BITS32, 3, [10, 10]), [1, 10, 10, 10]), [10, 10, 10]
+    said = "02 00 00 00 0a 00 00 00 0b 00 00 00 65 00 00 00"
+    yield "P8", packet_of(sketch_of(BITS32, 2, [1, 10]), 16), ((0, 16), said)
+    p9 = remove(make(BITS32, 1)[1], 1)[1]
+    yield "P9", (p9.count, p9.sums()), (4294967295, (4294967290,))
+    yield "P9", (write(p9, bytearray(12))[0], listed(p9, [1])), (3, 4)
+    p10 = remove(sketch_of(BITS32, 2, [1]), 2)[1]
+    yield "P10", (p10.sums(), p10.count, p10.last), ((4294967290, 4294967288), 0, 1)
+    yield "P10", listed(p10, [1, 2]), []
+    p11 = sketch_of(BITS32, 2, [4294967295])
+    kept, gone = remove(p11, 4294967295)[1], remove(p11, 4)[1]
+    yield "P11", (kept.sums(), kept.last, gone.sums(), gone.last), ((0, 0), 4, (0, 0), None)
+    yield "P12", [read(BITS32, bytes(n))[0] for n in (7, 8, 11, 140)], [6, 7, 7, 7]
+    yield "P12", read_thresholds(BITS32, (12, 139)), [(0, 1), (0, 32)]
+    yield "limit", [read(BITS32, packet(BITS32, 1, 1, [n]))[0] for n in (4294967290, 4294967291)], [0, 8]
+    yield "desk", desk_answer(b"threshold=3\nlog=1\nlog=2\nlog=10\ngot=1\ngot=10\n"), \
+        b"refusal=0\nthreshold=3\ncount=1\nfound=1\nmissing=2\n"
+
+
+def field_cases_16():
+    """What P1 to P4 are at 16 bits."""
+    yield "1/12 residues", [residue(BITS16, c) for c in (65520, 65521, 65535)], [65520, 0, 14]
+    yield "1/12 field", [add(BITS16, 65520, 1), subtract(BITS16, 0, 1), multiply(BITS16, 65520, 65520)], [0, 65520, 1]
+    yield "1/12 inverses", [inverse(BITS16, i) for i in (0, 2, 3, 4)], [0, 32761, 43681, 49141]
+    yield "1/12 power", [power(BITS16, 2, 10), power(BITS16, 2, 16), power(BITS16, 0, 0)], [(1024, 4), (15, 4), (1, 0)]
+    for exponent, made in ((0, 0), (1, 0), (2, 1), (32768, 15), (65519, 29), (65535, 30)):
+        yield "1/12 count", (power(BITS16, 2, exponent)[1], power_multiplications(BITS16, exponent)), (made, made)
+
+
+def sketch_cases_16():
+    """What P5 to P12 are at 16 bits."""
+    pair = sketch_of(BITS16, 3, [10, 12])
+    yield "1/12 sums", (pair.sums(), coefficients_of(pair, 3)), ((22, 244, 2728), ((0, 2), [65499, 120, 7]))
+    yield "1/12 decode", listed(pair, [1, 2, 10, 12, 10]), [10, 12, 10]
+    yield "1/12 decode", listed(sketch_of(BITS16, 1, [14]), [14, 65535, 15]), [14, 65535]
+    written = packet_of(sketch_of(BITS16, 2, [1, 10]), 10)
+    yield "1/12 packet", written, ((0, 10), "02 00 00 00 0a 00 0b 00 65 00")
+    below = remove(make(BITS16, 1)[1], 1)[1]
+    yield "1/12 count", (below.count, below.sums(), words_of(below)), (4294967295, (65520,), [1, 65535, 65535, 0, 0, 65520])
+    yield "1/12 count", (write(below, bytearray(8))[0], listed(below, [1])), (3, 4)
+    above = sketch_of(BITS16, 2, [65535])
+    kept, gone = remove(above, 65535)[1], remove(above, 14)[1]
+    yield "1/12 last code", (kept.sums(), kept.last, gone.sums(), gone.last), ((0, 0), 14, (0, 0), None)
+    yield "1/12 lengths", [read(BITS16, bytes(n))[0] for n in (0, 5, 6, 7, 72, 73)], [6, 6, 7, 7, 7, 7]
+    yield "1/12 lengths", read_thresholds(BITS16, (8, 9, 10, 70, 71)), [(0, 1), (0, 1), (0, 2), (0, 32), (0, 32)]
+    yield "1/12 sums read", [read(BITS16, packet(BITS16, 1, 1, [n]))[0] for n in (65520, 65521, 65535)], [0, 8, 8]
+    yield "1/12 last read", read(BITS16, packet(BITS16, 65536, 65535, [0]))[1].last, 14
+
+
+def single_reduction_cases():
+    """The value with one reduction: its refusals in their order, and that it is the plain one for 1 to 32 coefficients."""
+    calls = ([], [65521], [0] * 33, [65521] * 33, [65535] + [0] * 31, [0] * 31 + [65521])
+    yield "1/12 single", [eval_precompute(BITS16, one, 0)[0] for one in calls], [11, 8, 4, 4, 8, 8]
+    yield "1/12 single", eval_precompute(BITS16, [65499, 120], 65535), (0, 14 * 14 - 22 * 14 + 120)
+    yield "1/12 single", eval_precompute(BITS16, [65520] * 32, 1), (0, 65490)
+    for n in range(1, 33):
+        highest, mixed = [65520] * n, [(7919 * k + n) % 65521 for k in range(n)]
+        for x in (0, 1, 2, 14, 32768, 65520, 65521, 65535):
+            for one in (highest, mixed):
+                yield "1/12 single", eval_precompute(BITS16, one, x), evaluate(BITS16, one, x)
+
+
+def word_cases(kind, start, grown):
+    """The sketch of 10 and 12 in words: exactly as many, with others behind them, and too few; what is no sketch."""
+    head, p = head_words(kind), kind.modulus
+    yield "words", words_of(sketch_of(kind, 3, [10, 12])), start
+    for behind in ([], [0], [p, 7]):
+        words = start + behind
+        refusal = to_words(on_words(kind, insert, words, 1), words)
+        yield "words", (refusal, words), (0, grown + behind)
+    for length in range(len(start)):
+        words = start[:length]
+        refusals = on_words(kind, insert, words, 1)[0], to_words(make(kind, 3), words)
+        yield "words", (*refusals, words), (12, 5, start[:length])
+    faults = [(head - 2, 2), (head - 2, 0), (head - 1, p), (0, 0), (0, 33), (0, kind.codes() // 2), (head, p), (head + 2, p)]
+    for at, number in faults:
+        words = start + [0] * kind.greatest
+        words[at] = number
+        yield "words", sketch_in(kind, words), None
+    yield "words", sketch_in(kind, start + [p]).sums(), (22, 244, 2728)
+    yield "words", both_on_words(kind, sub, start, start[:-1])[0], 12
+
+
+def cases_of(kind):
+    """What the requirements say of every width alike."""
+    full = sketch_of(kind, 32, range(1, 33))
+    yield "limit", listed(full, list(range(1, 40))), list(range(1, 33))
+    yield "limit", listed(insert(full, 33)[1], [1]), 4
+    yield "make", [make(kind, threshold)[0] for threshold in (0, 1, 32, 33)], [1, 0, 0, 1]
+    for count in (0, 32, 33, 65535, 65536, 2 ** 31, 2 ** 32 - 1):
+        s = Sketch(kind, 1, filled(kind, [1]), count, None)
+        around = insert(s, 0)[1].count, remove(s, 0)[1].count
+        yield "count", (sketch_in(kind, words_of(s)), around), (s, ((count + 1) % 2 ** 32, (count - 1) % 2 ** 32))
+    table = INVERSES[kind]
+    yield "table", [multiply(kind, table[i], i + 1) for i in range(kind.greatest)], [1] * kind.greatest
+    made = [power(kind, 3, exponent)[1] for exponent in range(2000)]
+    yield "count", made, [power_multiplications(kind, exponent) for exponent in range(2000)]
 
 
 def bench_cases():
-    """Name, what the program answers, what the requirements say."""
-    yield "P1", [residue(c) for c in (4294967290, 4294967291, 4294967295)], [4294967290, 0, 4]
-    yield "P2", [add(4294967290, 1), subtract(0, 1), multiply(4294967290, 4294967290)], [0, 4294967290, 1]
-    yield "P3", [inverse(i) for i in (2, 3, 4)], [2147483646, 1431655764, 1073741823]
-    yield "P4", power(2, 10), (1024, 4)
-    for exponent, made in ((4294967289, 60), (4294967295, 62)):
-        yield "P4", (power(2, exponent)[1], power_multiplications(exponent)), (made, made)
-    p5 = sketch_of(3, [10, 12])
-    coefficients = [7, 7, 7]
-    yield "P5", p5.sums(), (22, 244, 2728)
-    yield "P5", (to_coeffs(p5, coefficients), coefficients), ((0, 2), [4294967269, 120, 7])
-    yield "P6", listed(p5, [1, 2, 10, 12, 10]), [10, 12, 10]
-    yield "P7", listed(sketch_of(3, [10, 10]), [1, 10, 10, 10]), [10, 10, 10]
-    buffer = bytearray(16)
-    yield "P8", write(sketch_of(2, [1, 10]), buffer), (0, 16)
-    yield "P8", buffer.hex(" "), "02 00 00 00 0a 00 00 00 0b 00 00 00 65 00 00 00"
-    p9 = remove(make(1)[1], 1)[1]
-    yield "P9", (p9.count, p9.sums()), (4294967295, (4294967290,))
-    yield "P9", (write(p9, bytearray(12))[0], listed(p9, [1])), (3, 4)
-    p10 = remove(sketch_of(2, [1]), 2)[1]
-    yield "P10", (p10.sums(), p10.count, p10.last), ((4294967290, 4294967288), 0, 1)
-    yield "P10", listed(p10, [1, 2]), []
-    p11 = sketch_of(2, [4294967295])
-    kept, gone = remove(p11, 4294967295)[1], remove(p11, 4)[1]
-    yield "P11", (kept.sums(), kept.last, gone.sums(), gone.last), ((0, 0), 4, (0, 0), None)
-    yield "P12", [read(bytes(n))[0] for n in (7, 8, 11, 140)], [6, 7, 7, 7]
-    yield "P12", [(read(bytes(n))[0], read(bytes(n))[1].threshold) for n in (12, 139)], [(0, 1), (0, 32)]
-    full = sketch_of(32, range(1, 33))
-    yield "limit", listed(full, list(range(1, 40))), list(range(1, 33))
-    yield "limit", listed(insert(full, 33)[1], [1]), 4
-    yield "limit", [read(packet_of([n]))[0] for n in (4294967290, 4294967291)], [0, 8]
-    yield "desk", desk_answer(b"threshold=3\nlog=1\nlog=2\nlog=10\ngot=1\ngot=10\n"), \
-        b"refusal=0\nthreshold=3\ncount=1\nfound=1\nmissing=2\n"
-    yield from word_cases()
-    yield "table", [multiply(INVERSES[i], i + 1) for i in range(GREATEST)], [1] * GREATEST
-    yield "count", [power(3, e)[1] for e in range(2000)], [power_multiplications(e) for e in range(2000)]
+    """All cases, of both widths."""
+    yield from field_cases_32()
+    yield from sketch_cases_32()
+    yield from cases_of(BITS32)
+    yield from word_cases(BITS32, [3, 2, 1, 12, 22, 244, 2728], [3, 3, 1, 1, 23, 245, 2729])
+    yield from field_cases_16()
+    yield from sketch_cases_16()
+    yield from single_reduction_cases()
+    yield from cases_of(BITS16)
+    yield from word_cases(BITS16, [3, 2, 0, 1, 12, 22, 244, 2728], [3, 3, 0, 1, 1, 23, 245, 2729])
 
 
 def main():

@@ -1,101 +1,245 @@
-//! The rule of words, tried through: every threshold in slices of every length, and every fault that words can have, each
-//! given to every call on sketches as each of its arguments.
+//! The rules of words, packets and coefficients, tried through: every threshold in slices of every length, and every
+//! fault that words can have, each given to every call on sketches as each of its arguments; packets of every length
+//! and with every fault; counts and pairs of counts at every edge; every number of coefficients; and, at 16 bits, every
+//! code to each operation on one.
 
+use crate::cases::COUNTS;
 use crate::op::{Op, LONGEST};
-use crate::oracle::P;
 use crate::rng::Rng;
-use ours::{COUNT, HAS_LAST, LAST, MAX_THRESHOLD, SUMS, THRESHOLD};
+use crate::width::Width;
+use ours::{MAX_THRESHOLD, THRESHOLD};
 
 /// The slot of the words that are tried, that of a good sketch of the same threshold, and that of a result.
 const TRIED: usize = 0;
 const GOOD: usize = 1;
 const RESULT: usize = 2;
 
+/// A code to insert, remove and look for; what fills words and bytes that are lent.
 const CODE: u32 = 12345;
 const FILL: u32 = 0xfeed;
 const BYTE: u8 = 0xee;
 
-/// The words of a sketch of a threshold, and any numbers behind them.
-fn sketch(rng: &mut Rng, threshold: usize) -> Vec<u32> {
-    let mut words: Vec<u32> = (0..LONGEST).map(|_| rng.next() as u32).collect();
-    words[THRESHOLD] = threshold as u32;
-    words[COUNT] = rng.range(0, threshold + 1) as u32;
-    (words[HAS_LAST], words[LAST]) = (1, words[LAST] % P);
-    for sum in &mut words[SUMS..ours::words(threshold)] {
-        *sum %= P;
+/// The most words that are tried, and how many bytes more than the longest packet.
+const MOST_WORDS: usize = LONGEST + 1;
+const MORE_BYTES: usize = 10;
+
+/// Makes operations at a width.
+struct Sweep {
+    width: &'static Width,
+    rng: Rng,
+}
+
+impl Sweep {
+    /// Any code below the prime.
+    fn residue(&mut self) -> u32 {
+        self.width.any(&mut self.rng) % self.width.modulus
     }
-    words
-}
 
-fn packet(words: &[u32], threshold: usize) -> Vec<u8> {
-    let numbers = [words[COUNT], words[LAST]];
-    numbers.iter().chain(&words[SUMS..ours::words(threshold)]).flat_map(|word| word.to_le_bytes()).collect()
-}
-
-/// Every call that reads a sketch, on the words that are tried, with a buffer long enough and with none.
-fn readers(threshold: usize) -> Vec<Op> {
-    let slot = TRIED;
-    let room = 8 + 4 * threshold;
-    let mut ops = vec![Op::WellFormed { slot }];
-    for room in [0, room] {
-        ops.push(Op::ToCoeffs { slot, room, fill: FILL });
-        ops.push(Op::Decode { slot, room, fill: FILL, log: vec![0, CODE, P - 1] });
-        ops.push(Op::Serialize { slot, room, fill: BYTE });
-        ops.push(Op::SerializeWithHint { slot, hint: threshold / 2, room, fill: BYTE });
-    }
-    ops
-}
-
-/// Every call on sketches, given the words as each of its arguments and as the place of its result.
-fn calls(good: &[u32], tried: &[u32], threshold: usize) -> Vec<Op> {
-    let put = |slot| Op::Put { slot, words: tried.to_vec() };
-    let mut ops = vec![Op::Put { slot: GOOD, words: good.to_vec() }, put(TRIED)];
-    ops.extend(readers(threshold));
-    ops.push(Op::Insert { slot: TRIED, code: CODE });
-    ops.push(Op::Remove { slot: TRIED, code: CODE });
-    ops.push(Op::Sub { slot: TRIED, rhs: GOOD, to: RESULT });
-    ops.push(Op::Sub { slot: GOOD, rhs: TRIED, to: RESULT });
-    ops.push(Op::SubAssign { slot: TRIED, rhs: GOOD });
-    ops.push(Op::SubAssign { slot: GOOD, rhs: TRIED });
-    ops.extend([put(RESULT), Op::Sub { slot: GOOD, rhs: GOOD, to: RESULT }]);
-    ops.extend([put(RESULT), Op::Deserialize { slot: RESULT, bytes: packet(good, threshold) }]);
-    ops.extend([put(RESULT), Op::New { slot: RESULT, threshold }, Op::New { slot: RESULT, threshold: 0 }]);
-    ops
-}
-
-/// The words with each fault alone, and with each word behind the sketch at the prime, which is none.
-fn spoilt(words: &[u32], threshold: usize) -> Vec<Vec<u32>> {
-    let with = |changes: &[(usize, u32)]| {
-        let mut copy = words.to_vec();
-        changes.iter().for_each(|&(at, number)| copy[at] = number);
-        copy
-    };
-    let thresholds = [0, 33, 34, 256, 1 << 31, u32::MAX].map(|t| with(&[(THRESHOLD, t)]));
-    let marks = [2, 3, 256, 1 << 31, u32::MAX].map(|mark| with(&[(HAS_LAST, mark)]));
-    let lasts = [(0, 0), (0, 1), (0, P), (1, 0), (1, P - 1), (1, P), (1, u32::MAX)]
-        .map(|(mark, last)| with(&[(HAS_LAST, mark), (LAST, last)]));
-    let counts = [0, threshold as u32, threshold as u32 + 1, u32::MAX].map(|count| with(&[(COUNT, count)]));
-    let places = (SUMS..words.len()).flat_map(|at| [P - 1, P, u32::MAX].map(|number| with(&[(at, number)])));
-    thresholds.into_iter().chain(marks).chain(lasts).chain(counts).chain(places).collect()
-}
-
-/// All of it, always the same.
-pub fn sweep() -> Vec<Op> {
-    let mut rng = Rng::new(1);
-    let mut ops = vec![Op::Put { slot: RESULT, words: vec![FILL; LONGEST] }];
-    for threshold in 1..=MAX_THRESHOLD {
-        let (good, tried) = (sketch(&mut rng, threshold), sketch(&mut rng, threshold));
-        for length in 0..=LONGEST {
-            ops.extend(calls(&good, &tried[..length], threshold));
+    /// The words of a sketch of a threshold, and any numbers behind them.
+    fn sketch(&mut self, threshold: usize) -> Vec<u32> {
+        let width = self.width;
+        let mut words: Vec<u32> = (0..MOST_WORDS).map(|_| width.any(&mut self.rng)).collect();
+        words[THRESHOLD] = threshold as u32;
+        width.put_count(&mut words, self.rng.range(0, threshold + 1) as u32);
+        words[width.has_last()] = 1;
+        for word in &mut words[width.last()..width.words(threshold)] {
+            *word %= width.modulus;
         }
+        words
     }
-    for threshold in [1, 2, 20, MAX_THRESHOLD] {
-        let (good, tried) = (sketch(&mut rng, threshold), sketch(&mut rng, threshold));
-        for length in [ours::words(threshold), ours::words(threshold) + 2] {
-            for words in spoilt(&tried[..length], threshold) {
-                ops.extend(calls(&good, &words, threshold));
+
+    /// Every call that reads a sketch, on the words that are tried, with a buffer long enough and with none.
+    fn readers(&self, threshold: usize) -> Vec<Op> {
+        let slot = TRIED;
+        let mut ops = vec![Op::WellFormed { slot }];
+        for room in [0, self.width.packet_bytes(threshold)] {
+            ops.push(Op::ToCoeffs { slot, room, fill: FILL });
+            ops.push(Op::Decode { slot, room, fill: FILL, log: vec![0, CODE, self.width.modulus - 1] });
+            ops.push(Op::Serialize { slot, room, fill: BYTE });
+            ops.push(Op::SerializeWithHint { slot, hint: threshold / 2, room, fill: BYTE });
+        }
+        ops
+    }
+
+    /// Every call on sketches, given the words as each of its arguments and as the place of its result.
+    fn calls(&self, good: &[u32], tried: &[u32], threshold: usize) -> Vec<Op> {
+        let bytes = self.width.packet_of(good, good[self.width.last()], threshold);
+        let put = |slot| Op::Put { slot, words: tried.to_vec() };
+        let mut ops = vec![Op::Put { slot: GOOD, words: good.to_vec() }, put(TRIED)];
+        ops.extend(self.readers(threshold));
+        ops.push(Op::Insert { slot: TRIED, code: CODE });
+        ops.push(Op::Remove { slot: TRIED, code: CODE });
+        ops.push(Op::Sub { slot: TRIED, rhs: GOOD, to: RESULT });
+        ops.push(Op::Sub { slot: GOOD, rhs: TRIED, to: RESULT });
+        ops.push(Op::SubAssign { slot: TRIED, rhs: GOOD });
+        ops.push(Op::SubAssign { slot: GOOD, rhs: TRIED });
+        ops.extend([put(RESULT), Op::Sub { slot: GOOD, rhs: GOOD, to: RESULT }]);
+        ops.extend([put(RESULT), Op::Deserialize { slot: RESULT, bytes }]);
+        ops.extend([put(RESULT), Op::New { slot: RESULT, threshold }, Op::New { slot: RESULT, threshold: 0 }]);
+        ops
+    }
+
+    /// The words with each fault alone, with other counts, and with each word behind the sketch at the prime, which is
+    /// no fault.
+    fn spoilt(&self, words: &[u32]) -> Vec<Vec<u32>> {
+        let (width, p, greatest) = (self.width, self.width.modulus, self.width.greatest());
+        let with = |changes: &[(usize, u32)]| {
+            let mut copy = words.to_vec();
+            changes.iter().for_each(|&(at, number)| copy[at] = number);
+            copy
+        };
+        let of_count = |count| {
+            let mut copy = words.to_vec();
+            width.put_count(&mut copy, count);
+            copy
+        };
+        let threshold = words[THRESHOLD];
+        let thresholds = [0, 33, 34, 256, width.half(), greatest].map(|t| with(&[(THRESHOLD, t)]));
+        let marks = [2, 3, 256, width.half(), greatest].map(|mark| with(&[(width.has_last(), mark)]));
+        let lasts = [(0, 0), (0, 1), (0, p), (1, 0), (1, p - 1), (1, p), (1, greatest)]
+            .map(|(mark, last)| with(&[(width.has_last(), mark), (width.last(), last)]));
+        let counts = [threshold, threshold + 1].into_iter().chain(COUNTS).map(of_count);
+        let places =
+            (width.sums()..words.len()).flat_map(|at| [p - 1, p, greatest].map(|number| with(&[(at, number)])));
+        thresholds.into_iter().chain(marks).chain(lasts).chain(counts).chain(places).collect()
+    }
+
+    /// Every threshold at every length, and every fault at some thresholds.
+    fn words(&mut self) -> Vec<Op> {
+        let mut ops = vec![Op::Put { slot: RESULT, words: vec![FILL; MOST_WORDS] }];
+        for threshold in 1..=MAX_THRESHOLD {
+            let (good, tried) = (self.sketch(threshold), self.sketch(threshold));
+            for length in 0..=MOST_WORDS {
+                ops.extend(self.calls(&good, &tried[..length], threshold));
             }
         }
+        for threshold in [1, 2, 20, MAX_THRESHOLD] {
+            let (good, tried) = (self.sketch(threshold), self.sketch(threshold));
+            for length in [self.width.words(threshold), self.width.words(threshold) + 2] {
+                for words in self.spoilt(&tried[..length]) {
+                    ops.extend(self.calls(&good, &words, threshold));
+                }
+            }
+        }
+        ops
+    }
+
+    /// Each count at an edge taken past it both ways, and each minus each.
+    fn counts(&mut self) -> Vec<Op> {
+        let words = self.sketch(2);
+        let put = |slot, count| {
+            let mut copy = words.clone();
+            self.width.put_count(&mut copy, count);
+            Op::Put { slot, words: copy }
+        };
+        let mut ops = vec![Op::Put { slot: RESULT, words: words.clone() }];
+        for left in COUNTS {
+            let (insert, remove) = (Op::Insert { slot: TRIED, code: CODE }, Op::Remove { slot: TRIED, code: 7 });
+            ops.extend([put(TRIED, left), insert.clone(), insert.clone(), insert]);
+            ops.extend([put(TRIED, left), remove.clone(), remove.clone(), remove]);
+            for right in COUNTS {
+                ops.extend([put(TRIED, left), put(GOOD, right), Op::Sub { slot: TRIED, rhs: GOOD, to: RESULT }]);
+                ops.push(Op::SubAssign { slot: TRIED, rhs: GOOD });
+            }
+        }
+        ops
+    }
+
+    /// A packet of a length whose sums are below the prime; the same with the prime, the greatest number below it and
+    /// the greatest of all as each sum and as the last code, and with 255 in the bytes behind; bytes all 0 and all 255.
+    fn packets_of(&mut self, length: usize) -> Vec<Vec<u8>> {
+        let (width, p) = (self.width, self.width.modulus);
+        let (head, size) = (width.head_bytes(), width.code_bytes());
+        let sums: Vec<u32> = (0..length / size).map(|_| self.residue()).collect();
+        let mut good = width.packet(self.rng.next() as u32, self.residue(), &sums);
+        good.truncate(length);
+        let mut packets = vec![good.clone(), vec![0; length], vec![255; length]];
+        let places = (head - size..length).step_by(size).filter(|at| at + size <= length);
+        for (at, code) in places.flat_map(|at| [p - 1, p, width.greatest()].map(|code| (at, code))) {
+            packets.push(good.clone());
+            packets.last_mut().unwrap()[at..at + size].copy_from_slice(&width.code(code));
+        }
+        let behind = length.saturating_sub(head) % size;
+        good[length - behind..].fill(255);
+        packets.push(good);
+        packets
+    }
+
+    /// Packets of every length, read into as many words as they take, one fewer, and the most.
+    fn packets(&mut self) -> Vec<Op> {
+        let (width, slot) = (self.width, TRIED);
+        let mut ops = vec![];
+        for length in 0..=width.packet_bytes(MAX_THRESHOLD) + MORE_BYTES {
+            let sums = length.saturating_sub(width.head_bytes()) / width.code_bytes();
+            let rooms = [width.words(sums), width.words(sums) - 1, MOST_WORDS].map(|room| room.min(MOST_WORDS));
+            for (k, bytes) in self.packets_of(length).into_iter().enumerate() {
+                let rooms = if k == 0 { &rooms[..] } else { &rooms[2..] };
+                for &room in rooms {
+                    ops.push(Op::Put { slot, words: vec![FILL; room] });
+                    ops.push(Op::Deserialize { slot, bytes: bytes.clone() });
+                }
+            }
+        }
+        ops
+    }
+
+    /// The value of coefficients, plainly, and with one reduction where the width has that call.
+    fn values(&self, coeffs: Vec<u32>, x: u32) -> Vec<Op> {
+        let plain = Op::Eval { x, coeffs: coeffs.clone() };
+        let single = self.width.single_reduction.then_some(Op::EvalPrecompute { x, coeffs });
+        std::iter::once(plain).chain(single).collect()
+    }
+
+    /// Every number of coefficients up to some above the greatest, at some codes; and each coefficient at fault alone.
+    fn coefficients(&mut self) -> Vec<Op> {
+        let (p, greatest) = (self.width.modulus, self.width.greatest());
+        let mut ops = vec![];
+        for count in 0..=MAX_THRESHOLD + 8 {
+            let coeffs: Vec<u32> = (0..count).map(|_| self.residue()).collect();
+            for x in [0, 1, 2, p - 1, p, greatest, self.width.any(&mut self.rng)] {
+                ops.extend(self.values(coeffs.clone(), x));
+                ops.extend(self.values(vec![p - 1; count], x));
+            }
+            for (at, number) in (0..count).flat_map(|at| [(at, p), (at, greatest)]) {
+                let mut spoilt = coeffs.clone();
+                spoilt[at] = number;
+                ops.extend(self.values(spoilt, CODE));
+            }
+        }
+        ops
+    }
+
+    /// Every code to the operations on one, to the power at some exponents, and as the exponent.
+    fn every_code(&self) -> Vec<Op> {
+        let exponents = [2, self.width.modulus - 1, self.width.greatest()];
+        (0..=self.width.greatest())
+            .flat_map(|code| {
+                let mut ops = vec![Op::Reduce(code), Op::Neg(code), Op::Inv(code), Op::PowMultiplications(code)];
+                ops.extend(exponents.map(|exponent| Op::Pow(code, exponent)));
+                ops.push(Op::Pow(3, code));
+                ops
+            })
+            .collect()
+    }
+
+    /// Every code inserted into one sketch, which takes the count into its second word, and then removed again.
+    fn every_code_in_and_out(&self) -> Vec<Op> {
+        let (slot, threshold) = (TRIED, 3);
+        let codes = || 0..=self.width.greatest();
+        let mut ops = vec![Op::Put { slot, words: vec![0; self.width.words(threshold)] }, Op::New { slot, threshold }];
+        ops.extend(codes().map(|code| Op::Insert { slot, code }));
+        ops.extend(codes().map(|code| Op::Remove { slot, code }));
+        ops
+    }
+}
+
+/// All of it, always the same at a width. Only at 16 bits are there few enough codes to try each.
+pub fn sweep(width: &'static Width) -> Vec<Op> {
+    let mut sweep = Sweep { width, rng: Rng::new(1) };
+    let mut ops = [sweep.words(), sweep.counts(), sweep.packets(), sweep.coefficients()].concat();
+    if width.bits == 16 {
+        ops.extend(sweep.every_code());
+        ops.extend(sweep.every_code_in_and_out());
     }
     ops
 }

@@ -10,12 +10,10 @@
 use crate::boundary;
 use crate::cases;
 use crate::op::{Op, LONGEST};
-use crate::oracle::{Oracle, P};
 use crate::rng::Rng;
-use ours::{COUNT, HAS_LAST, LAST, MAX_THRESHOLD, SUMS, THRESHOLD};
+use crate::width::{word, Width};
+use ours::{MAX_THRESHOLD, THRESHOLD};
 use std::collections::VecDeque;
-
-const EDGES: [u32; 16] = [0, 1, 2, 3, 4, 5, P - 2, P - 1, P, P + 1, P + 2, P + 3, P + 4, u32::MAX / 2, 1 << 31, 65535];
 
 /// How large a run's rounds and operations are.
 #[derive(Clone, Copy)]
@@ -40,7 +38,12 @@ enum Step {
     Carry { from: usize, to: usize, hint: usize },
 }
 
+/// The words that stand in a slot.
+pub type Slots<'a> = dyn Fn(usize) -> &'a [u32] + 'a;
+
+/// Makes the operations of a run, one after another.
 pub struct Generator {
+    width: &'static Width,
     rng: Rng,
     sizes: Sizes,
     waiting: VecDeque<Step>,
@@ -50,46 +53,37 @@ pub struct Generator {
     recent: Vec<u32>,
 }
 
-/// The number in a word, 0 where there are fewer words.
-fn word(words: &[u32], at: usize) -> u32 {
-    words.get(at).copied().unwrap_or(0)
-}
-
-/// The packet of words with the first `hint` sums at most, and a last code of its own.
-fn packet_of(words: &[u32], last: u32, hint: usize) -> Vec<u8> {
-    let sums = (word(words, THRESHOLD) as usize).min(MAX_THRESHOLD).min(hint);
-    let numbers = [word(words, COUNT), last];
-    numbers.iter().chain(words.iter().skip(SUMS).take(sums)).flat_map(|word| word.to_le_bytes()).collect()
-}
-
 impl Generator {
-    pub fn new(seed: u64, sizes: Sizes) -> Generator {
-        let mut opening = cases::opening();
+    /// A run at a width that a seed decides.
+    pub fn new(width: &'static Width, seed: u64, sizes: Sizes) -> Generator {
+        let mut opening = cases::opening(width);
         if sizes.wide {
-            opening.extend(boundary::sweep());
+            opening.extend(boundary::sweep(width));
         }
         let waiting = opening.into_iter().map(Step::Do).collect();
-        Generator { rng: Rng::new(seed), sizes, waiting, left: 0, recent: Vec::new() }
+        Generator { width, rng: Rng::new(seed), sizes, waiting, left: 0, recent: Vec::new() }
     }
 
     /// The next operation. The slots' words are looked at so that rooms and packets fall on the edges.
-    pub fn next(&mut self, state: &Oracle) -> Op {
+    pub fn next(&mut self, slots: &Slots) -> Op {
         if self.waiting.is_empty() && self.left == 0 {
             self.begin_round();
         }
         match self.waiting.pop_front() {
             Some(Step::Do(op)) => op,
             Some(Step::Carry { from, to, hint }) => {
-                let words = state.words(from);
-                Op::Deserialize { slot: to, bytes: packet_of(words, word(words, LAST), hint) }
+                let words = slots(from);
+                let last = word(words, self.width.last());
+                Op::Deserialize { slot: to, bytes: self.width.packet_of(words, last, hint) }
             }
             None => {
                 self.left -= 1;
-                self.any(state)
+                self.any(slots)
             }
         }
     }
 
+    /// An operation after those that wait.
     fn plan(&mut self, op: Op) {
         self.waiting.push_back(Step::Do(op));
     }
@@ -100,11 +94,13 @@ impl Generator {
         self.plan(Op::Put { slot, words });
     }
 
+    /// A fresh sketch in words of any numbers.
     fn plan_new(&mut self, slot: usize, threshold: usize) {
         self.plan_words(slot, threshold);
         self.plan(Op::New { slot, threshold });
     }
 
+    /// A bag, or fresh sketches and the length of a history on them.
     fn begin_round(&mut self) {
         self.recent.clear();
         if self.rng.percent(self.sizes.bags) {
@@ -128,6 +124,7 @@ impl Generator {
 
     // ---- the parts of an operation
 
+    /// A threshold in range.
     fn threshold(&mut self) -> usize {
         if self.rng.percent(self.sizes.small) {
             self.rng.range(1, 6)
@@ -138,16 +135,18 @@ impl Generator {
         }
     }
 
+    /// A number of the width: at an edge, small, or any.
     fn number(&mut self) -> u32 {
         if self.rng.percent(40) {
-            self.rng.pick(&EDGES)
+            self.rng.pick(&self.width.edges)
         } else if self.rng.percent(30) {
             self.rng.below(100) as u32
         } else {
-            self.rng.next() as u32
+            self.width.any(&mut self.rng)
         }
     }
 
+    /// A code, often one in use.
     fn code(&mut self) -> u32 {
         if !self.recent.is_empty() && self.rng.percent(40) {
             let code = self.rng.below(self.recent.len());
@@ -162,6 +161,7 @@ impl Generator {
         code
     }
 
+    /// Any slot.
     fn slot(&mut self) -> usize {
         self.rng.below(self.sizes.slots)
     }
@@ -178,6 +178,7 @@ impl Generator {
         }
     }
 
+    /// A hint around a threshold, or far above it.
     fn hint(&mut self, threshold: usize) -> usize {
         match self.rng.below(8) {
             0 => 0,
@@ -185,11 +186,12 @@ impl Generator {
             2 => threshold.saturating_sub(1),
             3 => threshold,
             4 => threshold + 1,
-            5 if self.sizes.wide => self.rng.pick(&[1 << 32, (1 << 32) + 1, 1 << 62, usize::MAX]),
+            5 if self.sizes.wide => self.rng.pick(&[1 << 16, (1 << 16) + 1, 1 << 32, (1 << 32) + 1, usize::MAX]),
             _ => self.rng.below(40),
         }
     }
 
+    /// A log, mostly short.
     fn log(&mut self) -> Vec<u32> {
         let length = if self.rng.percent(10) { self.rng.below(self.sizes.log + 1) } else { self.rng.below(13) };
         (0..length).map(|_| self.code()).collect()
@@ -197,12 +199,12 @@ impl Generator {
 
     /// The length of a slice for a sketch of a threshold: mostly its words or more, one time in 20 fewer.
     fn length(&mut self, threshold: usize) -> usize {
-        let need = ours::words(threshold);
+        let need = self.width.words(threshold);
         match self.rng.below(40) {
             0..=15 => need,
             16..=21 => need + 1,
             22..=29 => self.rng.range(need, LONGEST),
-            30..=33 => ours::words(MAX_THRESHOLD),
+            30..=33 => self.width.words(MAX_THRESHOLD),
             34..=37 => LONGEST,
             38 => need - 1,
             _ => self.rng.below(need),
@@ -211,18 +213,19 @@ impl Generator {
 
     /// Words of a sketch with numbers of any kind, any numbers behind them, then perhaps a fault that makes them none.
     fn words(&mut self) -> Vec<u32> {
-        let threshold = self.threshold();
+        let (width, threshold) = (self.width, self.threshold());
+        let (has_last, last, need) = (width.has_last(), width.last(), width.words(threshold));
         let mut words: Vec<u32> = (0..LONGEST).map(|_| self.number()).collect();
         words[THRESHOLD] = threshold as u32;
         if self.rng.percent(70) {
-            words[COUNT] = self.rng.range(0, threshold + 1) as u32;
+            width.put_count(&mut words, self.rng.range(0, threshold + 1) as u32);
         }
-        (words[HAS_LAST], words[LAST]) = if self.rng.percent(70) { (1, words[LAST] % P) } else { (0, 0) };
-        for sum in &mut words[SUMS..ours::words(threshold)] {
-            *sum %= P;
+        (words[has_last], words[last]) = if self.rng.percent(70) { (1, words[last] % width.modulus) } else { (0, 0) };
+        for sum in &mut words[width.sums()..need] {
+            *sum %= width.modulus;
         }
         words.truncate(self.length(threshold));
-        if self.rng.percent(40) && words.len() >= ours::words(threshold) {
+        if self.rng.percent(40) && words.len() >= need {
             self.spoil(&mut words, threshold);
         }
         words
@@ -230,46 +233,55 @@ impl Generator {
 
     /// A fault, or a threshold of one more or less, with which the words say another sketch or none.
     fn spoil(&mut self, words: &mut Vec<u32>, threshold: usize) {
-        let beyond = self.rng.pick(&[P, P + 1, P + 4]);
+        let width = self.width;
+        let (p, half, greatest) = (width.modulus, width.half(), width.greatest());
+        let (has_last, last) = (width.has_last(), width.last());
+        let beyond = self.rng.pick(&[p, p + 1, greatest]);
         match self.rng.below(7) {
-            0 => words[THRESHOLD] = self.rng.pick(&[0, 33, 34, 256, 1 << 31, u32::MAX]),
-            1 => words[SUMS + self.rng.below(threshold)] = beyond,
-            2 => (words[HAS_LAST], words[LAST]) = (1, beyond),
-            3 => words[HAS_LAST] = self.rng.pick(&[2, 3, 256, 1 << 31, u32::MAX]),
-            4 => (words[HAS_LAST], words[LAST]) = (0, self.rng.pick(&[1, P, u32::MAX])),
+            0 => words[THRESHOLD] = self.rng.pick(&[0, 33, 34, 256, half, greatest]),
+            1 => words[width.sums() + self.rng.below(threshold)] = beyond,
+            2 => (words[has_last], words[last]) = (1, beyond),
+            3 => words[has_last] = self.rng.pick(&[2, 3, 256, half, greatest]),
+            4 => (words[has_last], words[last]) = (0, self.rng.pick(&[1, p, greatest])),
             5 => words[THRESHOLD] = self.rng.pick(&[threshold - 1, threshold + 1]) as u32,
-            _ => words.truncate(self.rng.below(ours::words(threshold))),
+            _ => words.truncate(self.rng.below(width.words(threshold))),
         }
     }
 
     /// A packet: that of a slot or one of its own, whole, cut, longer, with a damaged byte, or any bytes.
-    fn packet(&mut self, state: &Oracle) -> Vec<u8> {
+    fn packet(&mut self, slots: &Slots) -> Vec<u8> {
         if self.rng.percent(10) {
-            let length = self.rng.below(4 * MAX_THRESHOLD + 20);
+            let length = self.rng.below(self.width.code_bytes() * MAX_THRESHOLD + 20);
             return (0..length).map(|_| self.rng.next() as u8).collect();
         }
         let slot = self.slot();
-        let words = if self.rng.percent(60) { state.words(slot).to_vec() } else { self.words() };
-        let last = if self.rng.percent(20) { self.number() } else { word(&words, LAST) };
-        let mut bytes = packet_of(&words, last, MAX_THRESHOLD);
+        let words = if self.rng.percent(60) { slots(slot).to_vec() } else { self.words() };
+        let last = if self.rng.percent(20) { self.number() } else { word(&words, self.width.last()) };
+        let mut bytes = self.width.packet_of(&words, last, MAX_THRESHOLD);
         self.damage(&mut bytes);
         bytes
     }
 
+    /// One time in four a packet stays whole; else it is cut, made longer, or changed.
     fn damage(&mut self, bytes: &mut Vec<u8>) {
         let length = bytes.len();
+        let (head, size) = (self.width.head_bytes(), self.width.code_bytes());
+        let full = self.width.packet_bytes(MAX_THRESHOLD);
         match self.rng.below(12) {
             0 => bytes.truncate(self.rng.below(length + 1)),
-            1 => bytes.truncate(self.rng.below(13)),
+            1 => bytes.truncate(self.rng.below(head + size + 1)),
             2 => bytes.truncate(length - 1),
             3 => bytes.extend((0..self.rng.range(1, 3)).map(|k| k as u8)),
             4 => bytes.extend([7, 7, 7, 7]),
-            5 => bytes.resize(self.rng.pick(&[136, 139, 140, 143, 144]), 3),
+            5 => {
+                let further = self.rng.pick(&[0, size - 1, size, 2 * size - 1, 2 * size]);
+                bytes.resize(full + further, 3);
+            }
             6 => bytes[self.rng.below(length)] ^= 1 << self.rng.below(8),
             7 => bytes[self.rng.below(length)] = self.rng.next() as u8,
-            8 if length >= 12 => {
-                let at = 8 + 4 * self.rng.below((length - 8) / 4);
-                bytes[at..at + 4].copy_from_slice(&self.number().to_le_bytes());
+            8 if length >= head + size => {
+                let at = head + size * self.rng.below((length - head) / size);
+                bytes[at..at + size].copy_from_slice(&self.width.code(self.number()));
             }
             _ => {}
         }
@@ -277,11 +289,12 @@ impl Generator {
 
     // ---- the operations
 
-    fn any(&mut self, state: &Oracle) -> Op {
+    /// Any operation.
+    fn any(&mut self, slots: &Slots) -> Op {
         let slot = self.slot();
-        let words = state.words(slot);
+        let words = slots(slot);
         let threshold = (word(words, THRESHOLD) as usize).min(MAX_THRESHOLD);
-        let count = (word(words, COUNT) as usize).min(threshold);
+        let count = (self.width.count(words) as usize).min(threshold);
         match self.rng.below(100) {
             0..=27 => Op::Insert { slot, code: self.code() },
             28..=41 => Op::Remove { slot, code: self.code() },
@@ -299,41 +312,49 @@ impl Generator {
                 Op::Decode { slot, room: self.room(log.len()), fill: self.number(), log }
             }
             69..=72 => {
-                let room = self.room(8 + 4 * threshold);
+                let room = self.room(self.width.packet_bytes(threshold));
                 Op::Serialize { slot, room, fill: self.rng.next() as u8 }
             }
             73..=76 => {
                 let hint = self.hint(threshold);
-                let room = self.room(8 + 4 * threshold.min(hint));
+                let room = self.room(self.width.packet_bytes(threshold.min(hint)));
                 Op::SerializeWithHint { slot, hint, room, fill: self.rng.next() as u8 }
             }
-            77..=81 => Op::Deserialize { slot, bytes: self.packet(state) },
+            77..=81 => Op::Deserialize { slot, bytes: self.packet(slots) },
             82 | 83 => Op::New { slot, threshold: self.any_threshold() },
             84..=86 => Op::Put { slot, words: self.words() },
             _ => self.field(),
         }
     }
 
+    /// A threshold, in range or not.
     fn any_threshold(&mut self) -> usize {
         if self.rng.percent(60) {
             return self.threshold();
         }
         if self.sizes.wide && self.rng.percent(30) {
-            // A threshold that a cast to 32 bits would bring back into range.
-            return self.rng.pick(&[1 << 32, (1 << 32) + 5, (1 << 63) + 20, usize::MAX]);
+            // Thresholds that a cast to 16 or to 32 bits would bring back into range.
+            return self.rng.pick(&[(1 << 16) + 5, 1 << 32, (1 << 32) + 5, (1 << 63) + 20, usize::MAX]);
         }
         self.rng.pick(&[0, 33, 34, 64, 256, 1 << 16])
     }
 
+    /// The value of coefficients, few or many, perhaps one of them at fault.
     fn evaluation(&mut self) -> Op {
         let length = self.rng.pick(&[0, 1, 1, 2, 3, 5, 8, 20, 31, 32, 33, 40]);
-        let mut coeffs: Vec<u32> = (0..length).map(|_| self.number() % P).collect();
+        let (p, greatest) = (self.width.modulus, self.width.greatest());
+        let mut coeffs: Vec<u32> = (0..length).map(|_| self.number() % p).collect();
         if length > 0 && self.rng.percent(15) {
-            coeffs[self.rng.below(length)] = self.rng.pick(&[P, P + 1, u32::MAX]);
+            coeffs[self.rng.below(length)] = self.rng.pick(&[p, p + 1, greatest]);
         }
-        Op::Eval { x: self.code(), coeffs }
+        let x = self.code();
+        if self.width.single_reduction && self.rng.percent(50) {
+            return Op::EvalPrecompute { x, coeffs };
+        }
+        Op::Eval { x, coeffs }
     }
 
+    /// An operation on codes.
     fn field(&mut self) -> Op {
         let (a, b) = (self.number(), self.number());
         match self.rng.below(8) {
@@ -375,15 +396,16 @@ impl Generator {
     fn write_and_carry(&mut self, threshold: usize) {
         let hint = self.hint(threshold);
         let fill = self.rng.next() as u8;
-        let room = self.room(8 + 4 * threshold);
+        let room = self.room(self.width.packet_bytes(threshold));
         self.plan(Op::Serialize { slot: 1, room, fill });
-        let room = self.room(8 + 4 * threshold.min(hint));
+        let room = self.room(self.width.packet_bytes(threshold.min(hint)));
         self.plan(Op::SerializeWithHint { slot: 1, hint, room, fill });
         if self.rng.percent(50) {
             self.waiting.push_back(Step::Carry { from: 1, to: 1, hint });
         }
     }
 
+    /// Coefficients and lists of a slot, with the log and with the log turned round and one code more.
     fn decode_both_ways(&mut self, slot: usize, missing: usize, log: &[u32]) {
         let fill = self.number();
         let room = self.room(missing);

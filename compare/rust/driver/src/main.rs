@@ -1,26 +1,38 @@
-//! Drives the verified sketch and the unchanged Rust with the same operations.
+//! Drives the verified sketch and the unchanged Rust with the same operations, at a width of 32 or 16 bits.
 //!
-//!     driver compare OPERATIONS SEED     runs both, and prints the operations of each kind and the differences
-//!     driver script OPERATIONS SEED      writes operations with the verified side's answers, for the second program
-//!     driver record OPERATIONS SEED      writes operations with the oracle's answers: the recorded list
-//!     driver strays                      what the Rust does where the requirements refuse, or differs from it
+//!     driver compare WIDTH OPERATIONS SEED  runs both, and prints the operations of each kind and the differences
+//!     driver script WIDTH OPERATIONS SEED   writes operations with the verified side's answers, for the second program
+//!     driver record WIDTH OPERATIONS SEED   writes operations with the oracle's answers: a part of the recorded list
+//!     driver strays [configured]            what the Rust does where the requirements refuse, or differs from it;
+//!                                           or what its tables do that were made for thresholds up to 32
 
 mod boundary;
+mod calls;
 mod cases;
 mod generate;
 mod op;
 mod oracle;
+mod published16;
+mod published32;
+mod residues;
 mod rng;
 mod strays;
+mod strays16;
 mod verified;
+mod width;
 
+use calls::{Calls, Calls16, Calls32};
 use generate::{Generator, Sizes};
 use op::{may_refuse, Op, KINDS};
-use oracle::Oracle;
+use oracle::{Oracle, Published};
+use quack::PowerSumQuackU32;
 use std::collections::BTreeSet;
 use std::io::Write;
+use table::PowerTableQuack;
 use verified::Verified;
+use width::Width;
 
+/// The runs that compare both sides, and those for the second program.
 const COMPARE: Sizes = Sizes { slots: 4, bags: 60, history: 20_000, log: 200, wide: true, small: 0 };
 const SCRIPT: Sizes = Sizes { slots: 3, bags: 60, history: 2_000, log: 60, wide: true, small: 0 };
 /// Small, so that a program with fixed arrays can replay it: no number above 2^32 - 1, no list above 200.
@@ -41,7 +53,8 @@ struct Tally {
 }
 
 impl Tally {
-    fn count(&mut self, op: &Op, answer: &[u64], oracle: &Oracle) {
+    /// Counts an operation that the oracle answered.
+    fn count<S: Published>(&mut self, op: &Op, answer: &[u64], oracle: &Oracle<S>) {
         let kind = op.kind();
         self.made[kind] += 1;
         if may_refuse(kind) {
@@ -49,7 +62,7 @@ impl Tally {
         }
         if let Some(slot) = op.slot() {
             match oracle.threshold(slot) {
-                Some(threshold) if oracle.words(slot).len() == ours::words(threshold) => self.filled += 1,
+                Some(threshold) if oracle.words(slot).len() == S::WIDTH.words(threshold) => self.filled += 1,
                 Some(_) => self.longer += 1,
                 None => self.without += 1,
             }
@@ -60,14 +73,15 @@ impl Tally {
             }
             (Op::Decode { slot, .. }, [0, found, ..]) if *found > 0 => {
                 self.listed += 1;
-                self.decoded_counts.insert(oracle.words(*slot)[ours::COUNT]);
+                self.decoded_counts.insert(S::WIDTH.count(oracle.words(*slot)));
             }
             _ => {}
         }
     }
 
-    fn print(&self) {
-        for (name, kind) in KINDS.iter().zip(1..) {
+    /// Prints what was counted, kind by kind.
+    fn print(&self, width: &Width) {
+        for (name, kind) in kinds(width).iter().zip(1..) {
             let refusals: Vec<String> = (1..16)
                 .filter(|&n| self.refused[kind][n] > 0)
                 .map(|n| format!("{n}: {}", self.refused[kind][n]))
@@ -89,19 +103,38 @@ impl Tally {
     }
 }
 
-/// The sides' slots agree, and no call wrote outside what it was lent.
-fn same_state(verified: &Verified, oracle: &Oracle, slots: usize) -> bool {
-    !verified.strayed && (0..slots).all(|slot| verified.words(slot) == oracle.words(slot))
+/// The names of the operations that a width has.
+fn kinds(width: &Width) -> &'static [&'static str] {
+    if width.single_reduction {
+        &KINDS
+    } else {
+        &KINDS[..KINDS.len() - 1]
+    }
 }
 
-fn compare(operations: u64, seed: u64) -> u64 {
-    let slots = COMPARE.slots;
-    let mut generator = Generator::new(seed, COMPARE);
-    let (mut verified, mut oracle) = (Verified::new(slots), Oracle::new(slots));
+/// The sides' slots agree, and no call wrote outside what it was lent.
+fn same_state<S: Published, C: Calls>(verified: &Verified<C>, oracle: &Oracle<S>, slots: usize) -> bool {
+    !verified.strayed && (0..slots).all(|slot| verified.holds(slot, oracle.words(slot)))
+}
+
+/// The verified side in the oracle's state, so that one fault is not counted again and again.
+fn set_right<S: Published, C: Calls>(oracle: &Oracle<S>, slots: usize) -> Verified<C> {
+    let mut verified = Verified::new(slots);
+    for slot in 0..slots {
+        verified.answer(&Op::Put { slot, words: oracle.words(slot).to_vec() });
+    }
+    verified
+}
+
+/// Runs both sides, prints what was compared and the first differences; the number of differences.
+fn compare<S: Published, C: Calls>(operations: u64, seed: u64) -> u64 {
+    let (width, slots) = (S::WIDTH, COMPARE.slots);
+    let mut generator = Generator::new(width, seed, COMPARE);
+    let (mut verified, mut oracle) = (Verified::<C>::new(slots), Oracle::<S>::new(slots));
     let mut tally = Tally::default();
     let mut differences = 0;
     for _ in 0..operations {
-        let op = generator.next(&oracle);
+        let op = generator.next(&|slot| oracle.words(slot));
         let ours = verified.answer(&op);
         let theirs = oracle.answer(&op);
         tally.count(&op, &theirs, &oracle);
@@ -110,50 +143,69 @@ fn compare(operations: u64, seed: u64) -> u64 {
         }
         differences += 1;
         if differences <= 10 {
-            print!("difference: {} {}  oracle {}", KINDS[op.kind() - 1], op.line(&ours), op.line(&theirs));
+            print!("difference: {} {}", KINDS[op.kind() - 1], op.line(width, &ours));
+            print!("  oracle {}", op.line(width, &theirs));
         }
-        // The oracle's state goes on, so that one fault is not counted again and again.
-        verified = Verified::new(slots);
-        for slot in 0..slots {
-            verified.answer(&Op::Put { slot, words: oracle.words(slot).to_vec() });
-        }
+        verified = set_right(&oracle, slots);
     }
-    println!("operations by kind, seed {seed}:");
-    tally.print();
-    println!("compared {operations} operations with the unchanged Rust: {differences} differences");
+    println!("operations by kind at {} bits, seed {seed}:", width.bits);
+    tally.print(width);
+    println!("compared {operations} operations at {} bits with {}: {differences} differences", width.bits, S::NAME);
     differences
 }
 
-fn script(operations: u64, seed: u64, sizes: Sizes, side: fn(&mut Verified, &mut Oracle, &Op) -> Vec<u64>) {
-    let mut generator = Generator::new(seed, sizes);
-    let (mut verified, mut oracle) = (Verified::new(sizes.slots), Oracle::new(sizes.slots));
+/// The operations of a run, each with what a side answers.
+fn write<S: Published>(operations: u64, seed: u64, sizes: Sizes, mut side: impl FnMut(&Op, Vec<u64>) -> Vec<u64>) {
+    let mut generator = Generator::new(S::WIDTH, seed, sizes);
+    let mut oracle = Oracle::<S>::new(sizes.slots);
     let mut out = std::io::BufWriter::new(std::io::stdout().lock());
     for _ in 0..operations {
-        let op = generator.next(&oracle);
-        let answer = side(&mut verified, &mut oracle, &op);
-        out.write_all(op.line(&answer).as_bytes()).unwrap();
+        let op = generator.next(&|slot| oracle.words(slot));
+        let theirs = oracle.answer(&op);
+        let answer = side(&op, theirs);
+        out.write_all(op.line(S::WIDTH, &answer).as_bytes()).unwrap();
     }
     out.flush().unwrap();
 }
 
-fn main() {
-    let words: Vec<String> = std::env::args().collect();
-    let number = |at: usize| words.get(at).and_then(|w| w.parse().ok());
-    match (words.get(1).map(String::as_str), number(2), number(3)) {
-        (Some("compare"), Some(operations), Some(seed)) => {
-            std::process::exit(if compare(operations, seed) == 0 { 0 } else { 1 })
+/// What is asked for, at a width whose sides are these; the status to exit with.
+fn run<S: Published, C: Calls>(command: &str, operations: u64, seed: u64) -> i32 {
+    match command {
+        "compare" => (compare::<S, C>(operations, seed) != 0) as i32,
+        "script" => {
+            let mut verified = Verified::<C>::new(SCRIPT.slots);
+            write::<S>(operations, seed, SCRIPT, |op, _| verified.answer(op));
+            if verified.strayed {
+                eprintln!("difference: some call wrote outside what it was lent");
+            }
+            verified.strayed as i32
         }
-        (Some("script"), Some(operations), Some(seed)) => script(operations, seed, SCRIPT, |verified, oracle, op| {
-            oracle.answer(op);
-            verified.answer(op)
-        }),
-        (Some("record"), Some(operations), Some(seed)) => {
-            script(operations, seed, RECORD, |_, oracle, op| oracle.answer(op))
+        "record" => {
+            write::<S>(operations, seed, RECORD, |_, theirs| theirs);
+            0
         }
-        (Some("strays"), None, None) => std::process::exit(if strays::check() == 0 { 0 } else { 1 }),
-        _ => {
-            eprintln!("usage: driver compare|script|record OPERATIONS SEED, or driver strays");
-            std::process::exit(2)
-        }
+        _ => usage(),
     }
+}
+
+/// Says how the program is called; the status to exit with.
+fn usage() -> i32 {
+    eprintln!("usage: driver compare|script|record 32|16 OPERATIONS SEED, or driver strays [configured]");
+    2
+}
+
+fn main() {
+    let words: Vec<String> = std::env::args().skip(1).collect();
+    let words: Vec<&str> = words.iter().map(String::as_str).collect();
+    let status = match words[..] {
+        ["strays"] => (strays::check(false) != 0) as i32,
+        ["strays", "configured"] => (strays::check(true) != 0) as i32,
+        [command, width, operations, seed] => match (width, operations.parse(), seed.parse()) {
+            ("32", Ok(operations), Ok(seed)) => run::<PowerSumQuackU32, Calls32>(command, operations, seed),
+            ("16", Ok(operations), Ok(seed)) => run::<PowerTableQuack, Calls16>(command, operations, seed),
+            _ => usage(),
+        },
+        _ => usage(),
+    };
+    std::process::exit(status)
 }

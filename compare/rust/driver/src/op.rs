@@ -7,15 +7,18 @@
 //! ```
 //!
 //! so a reader needs to know nothing of an operation to pass over it. The sketches that operations work on stand in
-//! numbered slots. A slot is a slice of at most `LONGEST` words, none at the start, that a sketch may be the first of.
+//! numbered slots. A slot is a slice of words, none at the start, that a sketch may be the first of. Numbers stand in
+//! 32 bits at every width, and each fits the width that the operation is at.
 //! What each kind takes and answers is said at `Op`; `refusal` is 0 where nothing is refused, and a refused operation
 //! leaves every slot and buffer as it was.
 
+use crate::width::Width;
 use std::fmt::Write;
 
-/// The most words of a slot: more than the greatest sketch has.
-pub const LONGEST: usize = ours::words(ours::MAX_THRESHOLD) + 4;
+/// The most words of a slot in a recorded list: more than the greatest sketch has at any width.
+pub const LONGEST: usize = 40;
 
+/// An operation; at each what it takes, and what it answers.
 #[derive(Clone, Debug)]
 pub enum Op {
     /// slot threshold → refusal, the slot's words
@@ -60,10 +63,12 @@ pub enum Op {
     Pow(u32, u32),
     /// exponent → the multiplications
     PowMultiplications(u32),
+    /// x coefficients.. → refusal, value; at 16 bits alone
+    EvalPrecompute { x: u32, coeffs: Vec<u32> },
 }
 
-/// The names of the kinds; a kind's number is its place here, from 1.
-pub const KINDS: [&str; 21] = [
+/// The names of the kinds; a kind's number is its place here, from 1, and what a width adds.
+pub const KINDS: [&str; 22] = [
     "new",
     "put",
     "well_formed",
@@ -85,14 +90,16 @@ pub const KINDS: [&str; 21] = [
     "field_inv",
     "field_pow",
     "field_pow_multiplications",
+    "eval_precompute",
 ];
 
 /// Whether the first answer of a kind is a refusal.
 pub fn may_refuse(kind: usize) -> bool {
-    (4..=13).contains(&kind) || kind == 1
+    (4..=13).contains(&kind) || kind == 1 || kind == 22
 }
 
 impl Op {
+    /// The kind's number at 32 bits.
     pub fn kind(&self) -> usize {
         match self {
             Op::New { .. } => 1,
@@ -116,6 +123,7 @@ impl Op {
             Op::Inv(_) => 19,
             Op::Pow(..) => 20,
             Op::PowMultiplications(_) => 21,
+            Op::EvalPrecompute { .. } => 22,
         }
     }
 
@@ -149,7 +157,7 @@ impl Op {
             Op::SubAssign { rhs, .. } => (vec![*rhs as u64], vec![]),
             Op::Sub { rhs, to, .. } => (vec![*rhs as u64, *to as u64], vec![]),
             Op::ToCoeffs { room, fill, .. } => (vec![*room as u64, *fill as u64], vec![]),
-            Op::Eval { x, coeffs } => (vec![*x as u64], wide(coeffs)),
+            Op::Eval { x, coeffs } | Op::EvalPrecompute { x, coeffs } => (vec![*x as u64], wide(coeffs)),
             Op::Decode { room, fill, log, .. } => (vec![*room as u64, *fill as u64], wide(log)),
             Op::Serialize { room, fill, .. } => (vec![*room as u64, *fill as u64], vec![]),
             Op::SerializeWithHint { hint, room, fill, .. } => (vec![*hint as u64, *room as u64, *fill as u64], vec![]),
@@ -159,14 +167,15 @@ impl Op {
         }
     }
 
+    /// All arguments, in the order of the line.
     fn arguments(&self) -> Vec<u64> {
         let (numbers, list) = self.numbers();
         self.slot().map(|slot| slot as u64).into_iter().chain(numbers).chain(list).collect()
     }
 
-    /// The operation's line in a script, with its LF.
-    pub fn line(&self, answers: &[u64]) -> String {
-        let mut text = self.kind().to_string();
+    /// The operation's line in a script of a width, with its LF.
+    pub fn line(&self, width: &Width, answers: &[u64]) -> String {
+        let mut text = (width.kinds + self.kind()).to_string();
         for list in [&self.arguments()[..], answers] {
             write!(text, " {}", list.len()).unwrap();
             for number in list {

@@ -1,12 +1,15 @@
 //! A small generator of numbers, so that a seed alone repeats a run on every machine (splitmix64).
 
+/// The generator's state.
 pub struct Rng(u64);
 
 impl Rng {
+    /// The generator that a seed begins.
     pub fn new(seed: u64) -> Rng {
         Rng(seed)
     }
 
+    /// Any number.
     pub fn next(&mut self) -> u64 {
         self.0 = self.0.wrapping_add(0x9e37_79b9_7f4a_7c15);
         let mut z = self.0;
@@ -30,6 +33,7 @@ impl Rng {
         self.below(100) < n
     }
 
+    /// One of a list.
     pub fn pick<T: Copy>(&mut self, from: &[T]) -> T {
         from[self.below(from.len())]
     }
