@@ -5,6 +5,7 @@ ghost use Rattle.rules.specs.Kind.{kind32};
 ghost use Rattle.rules.specs.Field.{residue, plus, minus, negative, times, multiplications, inverse};
 ghost use Rattle.modint32.specs.Answers.{wrap, powered};
 
+mod folding;
 pub mod precompute;
 pub mod slices;
 
@@ -36,7 +37,7 @@ pub const CODE_BYTES: usize = 4;
 
 // ---- numbers modulo the prime, reduced or not: what the residues' operations and the loops over sums are made of
 
-// No choice in these is a branch, and all are between numbers of 32 bits.
+// No choice in a sum or a difference is a branch, and all are between numbers of 32 bits.
 pub fn below(a: Word) -> Word
     ensures { λ r. ⌜ r ≡ residue kind32 a ⌝ }
 {
@@ -71,7 +72,7 @@ pub fn minus(a: Word, b: Word) -> Word
 pub fn times(a: Word, b: Word) -> Word
     ensures { λ r. ⌜ r ≡ times kind32 a b ⌝ }
 {
-    (((a as Wide) * (b as Wide)) % (Residue::MODULUS as Wide)) as Word
+    folding::remainder((a as Wide) * (b as Wide))
 }
 
 // The product and a further term, reduced once: a step of Horner's rule.

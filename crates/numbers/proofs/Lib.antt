@@ -11,3 +11,4 @@ pub mod Divisors
 pub mod Pocklington
 pub mod Primes
 pub mod Product
+pub mod Fold

@@ -2,3 +2,4 @@
 pub mod Prime
 pub mod Power
 pub mod Table
+pub mod Fold

@@ -9,5 +9,4 @@ use Rattle.modint32.proofs.times.Tie as tie
 pub times-spec : {M : Type 1} → statement M
 times-spec =
     tie.close
-    (tie.spec (λ c. record { fits = product-below (bits kind32) (search needs) (search needs) }) (λ c. search needs) (λ c. search needs) (λ c. search needs)
-    (λ c. search needs))
+    (tie.spec (λ c. record { fits = product-below (bits kind32) (search needs) (search needs) }) (λ c κs. search needs) (λ c. search needs))
