@@ -10,9 +10,11 @@
 //! and writes into buffers that are lent and not cleared between calls. The Rust makes a new list for coefficients,
 //! decoded lists and sketches that are read, and that is part of its time.
 //!
-//! At 32 bits the Rust is the published sketch, unchanged. At 16 bits it is the published sketch that looks powers up in
+//! At 32 bits the Rust is the published sketch, unchanged, but for the rows named `(divided)`: there it is a plain loop
+//! modulo a prime that the compiler cannot see. At 16 bits it is the published sketch that looks powers up in
 //! a table, unchanged, in the rows named `(table)`, and a plain one in the others; evaluations are the published ones.
 
+mod divided;
 mod plain;
 mod width16;
 mod width32;

@@ -1,12 +1,14 @@
-//! The works at 32 bits, beside the published sketch.
+//! The works at 32 bits, beside the published sketch; and insertions and products beside such as divide.
+use crate::divided::{hidden_modulus, product, Divided};
 use crate::{codes, mix, mixed, Kind, Work, CALLS, CODES, LOG};
 use ::ours::width32::{self as ours, COUNT, LAST, SUMS};
-use quack::arithmetic::ModularArithmetic;
+use quack::arithmetic::{ModularArithmetic, ModularInteger};
 use quack::{PowerSumQuack, PowerSumQuackU32, Quack};
 use std::hint::black_box;
 
 /// The works, in the order of their rows.
-pub const WORKS: &[Kind] = &[insert, remove, sub_assign, sub, coefficients, decode, write, read];
+pub const WORKS: &[Kind] =
+    &[insert, insert_divided, multiply, multiply_divided, remove, sub_assign, sub, coefficients, decode, write, read];
 
 fn rust_sketch(threshold: usize, codes: &[u32]) -> PowerSumQuackU32 {
     let mut sketch = PowerSumQuackU32::new(threshold);
@@ -39,26 +41,80 @@ fn our_sum(words: &[u32]) -> u64 {
     mixed(std::iter::once(words[COUNT]).chain(words[SUMS..].iter().copied()))
 }
 
-fn insert(threshold: usize, seed: u64) -> Work {
-    let (list, same) = (codes(seed, CODES), codes(seed, CODES));
+/// Codes put into a fresh sketch, beside what the given side does with them.
+fn insertions(beside: &str, threshold: usize, seed: u64, rust: impl FnMut() -> u64 + 'static) -> Work {
+    let list = codes(seed, CODES);
     Work {
-        name: format!("32 bits, insert, one call, T {threshold}"),
+        name: format!("32 bits, insert, one call, T {threshold}{beside}"),
         calls: CODES,
-        rust: Box::new(move || {
-            let mut sketch = PowerSumQuackU32::new(threshold);
-            for &code in &list {
-                black_box(&mut sketch).insert(code);
-            }
-            rust_sum(&sketch)
-        }),
+        rust: Box::new(rust),
         ours: Box::new(move || {
             let mut words = our_sketch(threshold, &[]);
-            for &code in &same {
+            for &code in &list {
                 ours::insert(black_box(&mut words), code);
             }
             our_sum(&words)
         }),
     }
+}
+
+fn insert(threshold: usize, seed: u64) -> Work {
+    let list = codes(seed, CODES);
+    insertions("", threshold, seed, move || {
+        let mut sketch = PowerSumQuackU32::new(threshold);
+        for &code in &list {
+            black_box(&mut sketch).insert(code);
+        }
+        rust_sum(&sketch)
+    })
+}
+
+fn insert_divided(threshold: usize, seed: u64) -> Work {
+    let list = codes(seed, CODES);
+    insertions(" (divided)", threshold, seed, move || {
+        let mut sketch = Divided::new(threshold);
+        for &code in &list {
+            black_box(&mut sketch).insert(code);
+        }
+        sketch.sum()
+    })
+}
+
+/// Chains of n products, each by the chain's own residue, beside what the given side makes of them.
+fn chains(beside: &str, n: usize, seed: u64, rust: impl FnMut() -> u64 + 'static) -> Work {
+    let list = residues(seed);
+    Work {
+        name: format!("32 bits, multiply, chains of {n}{beside}"),
+        calls: CALLS * n,
+        rust: Box::new(rust),
+        ours: Box::new(move || mixed(list.iter().map(|&x| (0..n).fold(x, |power, _| ours::field_mul(power, x))))),
+    }
+}
+
+/// Codes below the prime.
+fn residues(seed: u64) -> Vec<u32> {
+    codes(seed, CALLS).into_iter().map(|code| code % ours::MODULUS).collect()
+}
+
+fn multiply(n: usize, seed: u64) -> Work {
+    let list: Vec<ModularInteger<u32>> = residues(seed).into_iter().map(ModularInteger::new).collect();
+    chains("", n, seed, move || {
+        mixed(list.iter().map(|&x| {
+            let mut power = x;
+            for _ in 0..n {
+                power.mul_assign(x);
+            }
+            power.value()
+        }))
+    })
+}
+
+fn multiply_divided(n: usize, seed: u64) -> Work {
+    let list = residues(seed);
+    chains(" (divided)", n, seed, move || {
+        let p = hidden_modulus();
+        mixed(list.iter().map(|&x| (0..n).fold(x, |power, _| product(power, x, p))))
+    })
 }
 
 fn remove(threshold: usize, seed: u64) -> Work {

@@ -1,7 +1,7 @@
 //! The rules of words, packets and coefficients, tried through: every threshold in slices of every length, and every
 //! fault that words can have, each given to every call on sketches as each of its arguments; packets of every length
-//! and with every fault; counts and pairs of counts at every edge; every number of coefficients; and, at 16 bits, every
-//! code to each operation on one.
+//! and with every fault; counts and pairs of counts at every edge; every number of coefficients; products that leave
+//! next to nothing or next to the prime; and, at 16 bits, every code to each operation on one.
 
 use crate::cases::COUNTS;
 use crate::op::{Op, LONGEST};
@@ -209,6 +209,31 @@ impl Sweep {
         ops
     }
 
+    /// The residue y at which x · y leaves the number r, for x from 1 below the prime.
+    fn cofactor(&self, x: u32, r: u32) -> u32 {
+        let p = self.width.modulus as u64;
+        let halvings = (0..self.width.bits).rev().map(|bit| (p - 2) >> bit & 1);
+        let inverse = halvings.fold(1, |power, odd| power * power % p * if odd == 1 { x as u64 } else { 1 } % p);
+        (inverse * r as u64 % p) as u32
+    }
+
+    /// Products that leave each of the first and of the last residues, of many factors: there a product that is folded
+    /// ends just below or just above the prime.
+    fn products(&mut self) -> Vec<Op> {
+        const LAST: u32 = 40;
+        let mut ops = vec![];
+        for near in 0..=LAST {
+            for r in [near, self.width.modulus - 1 - near] {
+                for _ in 0..100 {
+                    let x = self.residue().max(1);
+                    let y = self.cofactor(x, r);
+                    ops.extend([Op::Mul(x, y), Op::Mul(y, x)]);
+                }
+            }
+        }
+        ops
+    }
+
     /// Every code to the operations on one, to the power at some exponents, and as the exponent.
     fn every_code(&self) -> Vec<Op> {
         let exponents = [2, self.width.modulus - 1, self.width.greatest()];
@@ -236,7 +261,7 @@ impl Sweep {
 /// All of it, always the same at a width. Only at 16 bits are there few enough codes to try each.
 pub fn sweep(width: &'static Width) -> Vec<Op> {
     let mut sweep = Sweep { width, rng: Rng::new(1) };
-    let mut ops = [sweep.words(), sweep.counts(), sweep.packets(), sweep.coefficients()].concat();
+    let mut ops = [sweep.words(), sweep.counts(), sweep.packets(), sweep.coefficients(), sweep.products()].concat();
     if width.bits == 16 {
         ops.extend(sweep.every_code());
         ops.extend(sweep.every_code_in_and_out());
