@@ -190,8 +190,7 @@ uint32_t eddy32_well_formed(const uint32_t *s, size_t s_len);
 /* Inserts a code of residue x: sum k grows by x^k, the count by 1, and x becomes the last code. Refusal: 12. */
 uint32_t eddy32_insert(uint32_t *s, size_t s_len, uint32_t code);
 
-/* Removes a code of residue x: sum k falls by x^k, the count by 1. The last code becomes none if it equals the code as given, unreduced.
-   Refusal: 12. */
+/* Removes a code of residue x: sum k falls by x^k, the count by 1, and a last code that is x becomes none. Refusal: 12. */
 uint32_t eddy32_remove(uint32_t *s, size_t s_len, uint32_t code);
 
 /* Subtracts rhs from s, in s: sums and counts are subtracted, and there is no last code. Refusals: 12 for either, 2. */

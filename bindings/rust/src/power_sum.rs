@@ -125,7 +125,7 @@ impl<W: Width> PowerSumQuack<W> {
     }
 
     /// Removes `value`, whether or not it was inserted. The count falls by 1 modulo 2^32. The last value becomes
-    /// unknown where it equals `value` as given, unreduced.
+    /// unknown where it equals the residue of `value`.
     ///
     /// # Examples
     ///
@@ -141,6 +141,9 @@ impl<W: Width> PowerSumQuack<W> {
     /// sketch.remove(9);
     /// assert_eq!(sketch.last_value(), None);
     /// assert_eq!(sketch.count(), 0);
+    /// sketch.insert(4294967295);
+    /// sketch.remove(4294967295);
+    /// assert_eq!(sketch.last_value(), None);
     /// # Ok(())
     /// # }
     /// ```

@@ -126,10 +126,10 @@ pub insert-wrong : (κs : Lfts 1)
 unfolding fresh each every wellFormed saidBy wordsFit wordsOf insertIn calls.insert sketch.insert
 insert-wrong κs = all-differ itself itself (at 1) _ _ refl refl refl
 
--- A removal is refused, or the last code is kept.
-pub remove-wrong : (κs : Lfts 1)
-    → RefusesAll itself (λ r s₁. remove.Post κs (lent both, (12, tt)) r (s₁, (12, tt))) 12
-    (head kind16 3 1 1 12 ++ 10 ∷ 100 ∷ 1000 ∷ [])
+-- A removal of the greatest code is refused, or its residue is kept as the last code.
+pub remove-wrong : (κs : Lfts 1) → let x = residue kind16 65535 in
+    RefusesAll itself (λ r s₁. remove.Post κs (lent (head kind16 1 1 1 x ++ x ∷ []), (65535, tt)) r (s₁, (65535, tt))) 12
+    (head kind16 1 0 1 x ++ 0 ∷ [])
 unfolding fresh each every wellFormed saidBy wordsFit wordsOf removeIn calls.remove sketch.remove
 remove-wrong κs = all-differ itself itself (at (hasAt kind16)) _ _ refl refl refl
 

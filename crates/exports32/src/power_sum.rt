@@ -70,8 +70,9 @@ pub extern "C" fn eddy32_remove(s: &mut [Word], code: Word) -> u32
     let x = Residue::reduce(Code(code));
     let end = HEAD + head.threshold;
     let count = std::num::wrapping_sub_u32(head.count, 1);
-    let has = words::unless_last(head.has, head.last, code);
-    let last = words::unless_last(head.last, head.last, code);
+    let residue = x.value();
+    let has = words::unless_last(head.has, head.last, residue);
+    let last = words::unless_last(head.last, head.last, residue);
     layout::put_head(s, head.threshold, count, has, last);
     powers::shift_by_powers(&mut s[HEAD..end], x, true);
     0

@@ -82,9 +82,9 @@ pub(crate) fn head_of(words: &[Word]) -> Head
     }
 }
 
-// A word of the last code, or 0 where the code is the last one.
-pub(crate) fn unless_last(word: Word, last: Word, code: Word) -> Word
-    ensures { λ r. ⌜ r ≡ cond (eqb last code) 0 word ⌝ }
+// A word of the last code, or 0 where the residue x is that code.
+pub(crate) fn unless_last(word: Word, last: Word, x: Word) -> Word
+    ensures { λ r. ⌜ r ≡ cond (eqb last x) 0 word ⌝ }
 {
-    if last == code { 0 } else { word }
+    if last == x { 0 } else { word }
 }

@@ -59,7 +59,7 @@ fn two_insertions() -> bool {
 }
 
 // P11 at this width: the threshold 2, with the greatest code inserted, and then a code of the same residue removed.
-fn back_and_forth(code: Word, last: Word) -> bool {
+fn back_and_forth(code: Word) -> bool {
     let fresh = PowerSumQuackU32::new(2);
     let empty = fresh.sketch;
     let there = empty.insert_once(Code(4294967295));
@@ -69,7 +69,21 @@ fn back_and_forth(code: Word, last: Word) -> bool {
         return false;
     }
     let none = back.sketch;
-    holds(none, 0, 0, 0, 0, last)
+    holds(none, 0, 0, 0, 0, Residue::MODULUS)
+}
+
+// P10 at this width: the threshold 2, with 1 inserted and 2 removed.
+fn another_code() -> bool {
+    let fresh = PowerSumQuackU32::new(2);
+    let empty = fresh.sketch;
+    let there = empty.insert_once(Code(1));
+    let one = there.sketch;
+    let back = one.remove_once(Code(2));
+    if back.refusal != 0 {
+        return false;
+    }
+    let apart = back.sketch;
+    holds(apart, 4294967290, 4294967288, 0, 0, 1)
 }
 
 // A sketch whose second place is used though its threshold is 1 is refused by 12, and stays as it was.
@@ -106,11 +120,12 @@ fn one_unless(same: bool) -> u8
 
 fn main() {
     let differences = one_unless(two_insertions())
-        + one_unless(back_and_forth(4294967295, 4))
-        + one_unless(back_and_forth(4, Residue::MODULUS))
+        + one_unless(back_and_forth(4294967295))
+        + one_unless(back_and_forth(4))
+        + one_unless(another_code())
         + one_unless(refused());
     let digit = [b'0' + differences];
-    io::write_all(STDOUT_FILENO, b"4 cases, ");
+    io::write_all(STDOUT_FILENO, b"5 cases, ");
     io::write_all(STDOUT_FILENO, &digit);
     io::write_all(STDOUT_FILENO, b" differences\n");
 }

@@ -11,6 +11,7 @@ use Rattle.numbers.specs.Power.{powerMod, powerWithin}
 use Rattle.numbers.specs.Table.{every}
 use Rattle.modint16.specs.Answers.{val, wrap}
 use Rattle.rules.specs.Kind.{kind16}
+use Rattle.rules.specs.Field.{residue}
 use Rattle.rules.specs.Sketch as sketch
 use Rattle.rules.specs.Sketch.{fresh, each, wellFormed}
 use Rattle.rules.specs.Packet.{bytes, number, allBytes, allNumbers, packet, packetLength, sketchIn}
@@ -56,6 +57,9 @@ threshold-of a = a .sketch .threshold
 abbrev last-number : Last → ℕ
 last-number Nothing = 0
 last-number (Code x) = val x
+
+abbrev last-of : Answer → ℕ
+last-of a = last-number (a .sketch .last)
 
 abbrev itself : ℕ → ℕ
 itself n = n
@@ -127,6 +131,22 @@ insert-once-wrong = both-differ count-of _ _ refl refl
 pub remove-once-wrong : RefusesBoth (holds (remove-once.Post tt) (both, (code 10, tt))) (answered 0 both) (answered 0 none)
 unfolding fresh each every wellFormed sketch.insert sketch.remove removeOf calls.remove
 remove-once-wrong = both-differ count-of _ _ refl refl
+
+-- A sketch with the greatest code inserted, and one from which it was removed again and whose last code was kept.
+abbrev large : PowerSumQuackU16
+large = built (sketch.insert kind16 (fresh 3) 65535)
+
+abbrev kept : PowerSumQuackU16
+kept = built (record { threshold = 3; sums = replicate 3 0; count = 0; last = sketch.code (residue kind16 65535) })
+
+-- The last code stays where the code of which it is the residue is removed: by value, in place, or on a sketch of one's own.
+pub last-code-kept-wrong : (holds (remove.Post tt) (large, (code 65535, tt)) (answered 0 kept) → ⊥)
+    × (Promised types (removeOf large (code 65535)) (0, kept) → ⊥)
+    × (holds (remove-once.Post tt) (large, (code 65535, tt)) (answered 0 kept) → ⊥)
+unfolding fresh each every wellFormed sketch.insert sketch.remove removeOf calls.remove
+last-code-kept-wrong =
+    let by-value = differs last-of (answered 0 kept) refl in
+    (by-value, λ p. differs (λ (s : PowerSumQuackU16). last-number (s .last)) kept refl (p .1), by-value)
 
 -- Thresholds that differ are not refused, or refused by 3.
 pub sub-assign-wrong : RefusesBoth (holds (sub-assign.Post tt) (both, (built (fresh 2), tt))) (answered 0 both) (answered 3 both)

@@ -52,15 +52,15 @@ fn last_fits(last: Last) -> bool
     }
 }
 
-fn last_without(last: Last, code: Code) -> Last
-    ensures { λ r. ⌜ r ≡ lastTo (lastWithout (lastOf last) (code .0)) ⌝ }
+fn last_without(last: Last, x: Residue) -> Last
+    ensures { λ r. ⌜ r ≡ lastTo (lastWithout (lastOf last) (x .0)) ⌝ }
 {
     match last {
         Last::Nothing => Last::Nothing,
-        Last::Code(x) => if x.value() == code.0 {
+        Last::Code(y) => if y.value() == x.value() {
             Last::Nothing
         } else {
-            Last::Code(x)
+            Last::Code(y)
         },
     }
 }
@@ -210,7 +210,7 @@ impl PowerSumQuackU32 {
             self.threshold,
             self.shifted(x, true),
             count,
-            last_without(last, code),
+            last_without(last, x),
         )
     }
 }

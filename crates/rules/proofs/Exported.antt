@@ -120,10 +120,10 @@ module _ (K : Kind) where
         let moved : length (after .sums) ≡ saidBy K ws .threshold = each-length _ 1 (saidBy K ws .sums) ∙ many in
         stores K ws after comes ef et en eh el (es ∙ rw (in-use t n has last et em ef, ex)) (em ∙ et ∙ sym moved) (omega (arith, moved, enough))
 
-    -- Removal: one less, the last code unless it is the code as given, and the sums in use go down by the powers of its residue.
+    -- Removal: one less, the last code unless it is the code's residue, and the sums in use go down by the powers of that residue.
     pub remove-stores : (c : ℕ) {x t m n has last : ℕ} {front sums : List ℕ} → t ≡ saidBy K ws .threshold → m ≡ t → n ≡ difference counts (saidBy K ws .count) 1
-        → has ≡ cond (eqb (codeOr0 (saidBy K ws .last)) c) 0 (hasCode (saidBy K ws .last))
-        → last ≡ cond (eqb (codeOr0 (saidBy K ws .last)) c) 0 (codeOr0 (saidBy K ws .last))
+        → has ≡ cond (eqb (codeOr0 (saidBy K ws .last)) (residue K c)) 0 (hasCode (saidBy K ws .last))
+        → last ≡ cond (eqb (codeOr0 (saidBy K ws .last)) (residue K c)) 0 (codeOr0 (saidBy K ws .last))
         → front ≡ headed K ws t n has last → x ≡ residue K c → sums ≡ movedByPowers K true x (take m (drop (headWords K) front))
         → (0 ≡ refusalOf (removeIn K ws c)) × (putMid (headWords K) m front sums ≡ written (removeIn K ws c) ws)
     unfolding removeIn calls.remove sketch.remove
@@ -131,7 +131,7 @@ module _ (K : Kind) where
         let after = sketch.remove K (saidBy K ws) c in
         let comes : removeIn K ws c ≡ given (wordsOf K after) = rw ok in
         let moved : length (after .sums) ≡ saidBy K ws .threshold = each-length _ 1 (saidBy K ws .sums) ∙ many in
-        let kept = without-words (saidBy K ws .last) c in
+        let kept = without-words (saidBy K ws .last) (residue K c) in
         stores K ws after comes ef et en (eh ∙ sym (kept .0)) (el ∙ sym (kept .1)) (es ∙ rw (in-use t n has last et em ef, ex)) (em ∙ et ∙ sym moved)
         (omega (arith, moved, enough))
 

@@ -7,6 +7,7 @@ pub mod Most
 pub mod Mapping
 pub mod Changing
 pub mod WellFormed
+pub mod LastCode
 pub mod Recurrence
 pub mod Evaluate
 pub mod OneReduction

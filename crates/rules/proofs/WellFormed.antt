@@ -82,7 +82,7 @@ module _ (K : Kind) where
     as-many = each-length _ 1 (s .sums) ∙ w .as-many;
     sums-below = removed-below s c;
     count-below = mod-lt _ (omega arith);
-    last-fits = last-without-fits (s .last) c (w .last-fits);
+    last-fits = last-without-fits (s .last) _ (w .last-fits);
   }
 
   -- The difference of two well-formed sketches is well formed.

@@ -95,7 +95,7 @@ removeCases =
     ∷ gives (apart .count ∷ lastList (apart .last)) (0 ∷ 1 ∷ [])
     ∷ gives (listing (calls.decode kind32 true apart (1 ∷ 2 ∷ 3 ∷ []) 3)) (0 ∷ [])
     ∷ gives (remove kind32 large 4294967295 .sums) (0 ∷ 0 ∷ [])
-    ∷ gives (lastList (remove kind32 large 4294967295 .last)) (4 ∷ [])
+    ∷ gives (lastList (remove kind32 large 4294967295 .last)) []
     ∷ gives (lastList (remove kind32 large 4 .last)) []
     ∷ []
 
@@ -202,7 +202,7 @@ narrowSketchCases =
     ∷ gives (listing (calls.coefficients kind16 true both 3)) (0 ∷ 65499 ∷ 120 ∷ [])
     ∷ gives (listing (calls.decode kind16 true both (1 ∷ 2 ∷ 10 ∷ 12 ∷ 10 ∷ []) 5)) (0 ∷ 10 ∷ 12 ∷ 10 ∷ [])
     ∷ gives (large .sums) (14 ∷ 196 ∷ [])
-    ∷ gives (lastList (remove kind16 large 65535 .last)) (14 ∷ [])
+    ∷ gives (lastList (remove kind16 large 65535 .last)) []
     ∷ gives (lastList (remove kind16 large 14 .last)) []
     ∷ gives (remove kind16 (fresh 1) 1 .count ∷ remove kind16 (fresh 1) 1 .sums) (4294967295 ∷ 65520 ∷ [])
     ∷ gives (listing (calls.decode kind16 true (inserts kind16 (fresh 32) (downFrom 32)) (33 ∷ downFrom 32) 33)) (0 ∷ downFrom 32)

@@ -89,18 +89,18 @@ insert K s c = record {
   last = code (residue K c);
 }
 
--- The last code is forgotten where it equals the code as given, unreduced.
+-- The last code is forgotten where it equals the residue x.
 abbrev pub lastWithout : Last → ℕ → Last
-lastWithout nothing c = nothing
-lastWithout (code x) c = cond (eqb x c) nothing (code x)
+lastWithout nothing x = nothing
+lastWithout (code y) x = cond (eqb y x) nothing (code y)
 
--- Removal of a code with residue x: sum k falls by x^k, the count by 1.
+-- Removal of a code with residue x: sum k falls by x^k, the count by 1, and the last code is forgotten where it equals x.
 unfoldable pub remove : Kind → Sketch → ℕ → Sketch
 remove K s c = record {
   threshold = s .threshold;
   sums = each (λ (k sum : ℕ). minus K sum (residue K c ^ k)) 1 (s .sums);
   count = difference counts (s .count) 1;
-  last = lastWithout (s .last) c;
+  last = lastWithout (s .last) (residue K c);
 }
 
 -- Subtraction: the smaller threshold is kept and the further sums dropped; sums and counts are subtracted, and there is no last code.

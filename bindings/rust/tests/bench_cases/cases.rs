@@ -121,16 +121,14 @@ fn p10_count_zero_decodes_to_nothing() {
 }
 
 #[test]
-fn p11_last_value_is_compared_unreduced() {
-    let mut sketch = sketch_of(2, &[Word::MAX]);
-    sketch.remove(Word::MAX);
-    assert_eq!(sums_of(&sketch), [0, 0]);
-    assert_eq!(sketch.last_value(), Some(NUMBERS.residue_of_max));
-
-    let mut other = sketch_of(2, &[Word::MAX]);
-    other.remove(NUMBERS.residue_of_max);
-    assert_eq!(sums_of(&other), [0, 0]);
-    assert_eq!(other.last_value(), None);
+fn p11_last_value_is_forgotten_by_its_residue() {
+    for value in [Word::MAX, NUMBERS.residue_of_max] {
+        let mut sketch = sketch_of(2, &[Word::MAX]);
+        sketch.remove(value);
+        assert_eq!(sums_of(&sketch), [0, 0]);
+        assert_eq!(sketch.count(), 0);
+        assert_eq!(sketch.last_value(), None);
+    }
 }
 
 #[test]

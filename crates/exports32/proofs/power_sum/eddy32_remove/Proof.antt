@@ -1,7 +1,7 @@
 -- Words that do not fit are refused; otherwise the count and the last code are stored, and the powers are taken from the sums where they stand.
 -- Assumes nothing.
 use Prim.Native.Nat.{ℕ}
-use mathlib.Core.Path.{_∙_, ap, ap₂}
+use mathlib.Core.Path.{_≡_, _∙_, ap}
 use mathlib.Core.Bool.{cond}
 use native.Mathlib.Nat.{add-sub-cancel-left}
 use native.Mathlib.Omega.{arith}
@@ -9,7 +9,7 @@ use lib.Dec.{eqb}
 use borrow.Author.Needs.{needs}
 use Rattle.modint32.specs.Answers.{val}
 use Rattle.rules.specs.Kind.{kind32, counts}
-use Rattle.rules.specs.Field.{difference}
+use Rattle.rules.specs.Field.{residue, difference}
 use Rattle.rules.proofs.Field.{count-down}
 use Rattle.rules.specs.Words.{headWords}
 use Rattle.exports32.proofs.Heads.{Heads, heads, misfits}
@@ -30,12 +30,22 @@ returns c =
     let a = h .before .before .before .args in
     refuses (a .s .now) (remove-misfit kind32 (a .s .now) (misfits (a .s .now) (h .head-of .ensures) (c .if1 .taken)) (a .code))
 
+-- The words before the sums are there, and the threshold is one of a sketch.
+room : tie.Need-put-head-requires
+room c κs =
+    let h = head (c .before .before .before .before .before .before .before) in
+    (omega (arith, h .enough), omega (arith, h .most))
+
 -- The words in use are still there.
 end : tie.Need-part-shift-by-powers-end
 end c =
     let p = c .before .before in
-    let e = p .before .before .before .before .before .before .before in
+    let e = p .before .before .before .before .before .before .before .before in
     omega (arith, head e .enough, as-many kind32 (start e .args .s .now) _ _ _ _ (p .put-head .ensures))
+
+-- A word of the last code, or 0, with each number said otherwise.
+unless : {y y′ x x′ word word′ : ℕ} → y ≡ y′ → x ≡ x′ → word ≡ word′ → cond (eqb y x) 0 word ≡ cond (eqb y′ x′) 0 word′
+unless e f g = rw (e, f, g)
 
 returns-2 : tie.Need-returns-2
 returns-2 c =
@@ -43,20 +53,20 @@ returns-2 c =
     let p = m .before .before .before .before in
     let l = p .before .before in
     let f = l .before in
-    let n = f .before in
+    let v = f .before in
+    let n = v .before in
     let x = n .before .before in
     let e = x .before in
     let h = head e in
     let code = start e .args .code in
+    let same : v .value .result ≡ residue kind32 code = v .value .ensures ∙ ap val (x .reduce .ensures) in
     remove-stores kind32 (start e .args .s .now) (h .ok) code (h .threshold) (add-sub-cancel-left (headWords kind32) _)
     (count-down _ 1 _ (n .wrapping-sub-u32 .ensures) (search needs) (search needs) ∙ ap (λ (k : ℕ). difference counts k 1) (h .count))
-    (f .unless-last .ensures ∙ ap₂ (λ (y z : ℕ). cond (eqb y code) 0 z) (h .last) (h .has))
-    (l .unless-last2 .ensures ∙ ap (λ (y : ℕ). cond (eqb y code) 0 y) (h .last)) (p .put-head .ensures)
+    (f .unless-last .ensures ∙ unless (h .last) same (h .has)) (l .unless-last2 .ensures ∙ unless (h .last) same (h .last)) (p .put-head .ensures)
     (ap val (x .reduce .ensures)) (m .shift-by-powers .ensures)
 
 pub eddy32-remove-spec : {M : Type 1} → statement M
 eddy32-remove-spec =
     tie.close
     (tie.spec (λ c κs. tt) (λ c. search needs) returns (λ c κs. tt) (λ c. omega (arith, head (c .before .before) .most)) (λ c κs. tt) (λ c κs. tt)
-    (λ c κs. tt) (λ c κs. let h = head (c .before .before .before .before .before .before) in (omega (arith, h .enough), omega (arith, h .most)))
-    (λ c. search needs) (λ c. search needs) end (λ c κs. tt) (λ c. search needs) returns-2)
+    (λ c κs. tt) (λ c κs. tt) room (λ c. search needs) (λ c. search needs) end (λ c κs. tt) (λ c. search needs) returns-2)

@@ -1,4 +1,4 @@
--- The stored last code is compared with the code as given.
+-- The stored last code is compared with the residue.
 -- Assumes nothing.
 use Prim.Native.Nat.{ℕ}
 use mathlib.Core.Path.{_≡_, sym, _∙_}
@@ -12,18 +12,22 @@ use Rattle.power_sum32.specs.Answers.{lastOf, lastTo}
 use Rattle.power_sum32.proofs.power_sum.last_without.Statement.{statement}
 use Rattle.power_sum32.proofs.power_sum.last_without.Tie as tie
 
-module _ (l : Last) (x : Residue) (c : ℕ) (e : l ≡ Code x) where
-  goes : x .0 ≡ c → Nothing ≡ lastTo (lastWithout (lastOf l) c)
-  goes h = simp (e, eq-eqb (x .0) c h)
+module _ (l : Last) (y : Residue) (x : ℕ) (e : l ≡ Code y) where
+  goes : y .0 ≡ x → Nothing ≡ lastTo (lastWithout (lastOf l) x)
+  goes h = simp (e, eq-eqb (y .0) x h)
 
-  stays : (x .0 ≡ c → ⊥) → Code x ≡ lastTo (lastWithout (lastOf l) c)
-  stays h = simp (e, ne-eqb (x .0) c h)
+  stays : (y .0 ≡ x → ⊥) → Code y ≡ lastTo (lastWithout (lastOf l) x)
+  stays h = simp (e, ne-eqb (y .0) x h)
 
 returns-2 : tie.Need-returns-2
-returns-2 c = goes _ _ _ (c .before .before .before .before .last .given .1) (sym (c .before .before .value .ensures) ∙ c .if1 .taken)
+returns-2 c =
+    let v = c .before .before in
+    goes _ _ _ (v .before .before .last .given .1) (sym (v .value .ensures) ∙ c .if1 .taken ∙ c .before .value2 .ensures)
 
 returns-3 : tie.Need-returns-3
-returns-3 c = stays _ _ _ (c .before .before .before .before .last .given .1) (λ e. c .if1 .left (c .before .before .value .ensures ∙ e))
+returns-3 c =
+    let v = c .before .before in
+    stays _ _ _ (v .before .before .last .given .1) (λ e. c .if1 .left (v .value .ensures ∙ e ∙ sym (c .before .value2 .ensures)))
 
 pub last-without-spec : {M : Type 1} → statement M
-last-without-spec = tie.close (tie.spec (λ c. search needs) (λ c. search needs) (λ c κs. tt) (λ c. search needs) returns-2 returns-3)
+last-without-spec = tie.close (tie.spec (λ c. search needs) (λ c. search needs) (λ c κs. tt) (λ c κs. tt) (λ c. search needs) returns-2 returns-3)

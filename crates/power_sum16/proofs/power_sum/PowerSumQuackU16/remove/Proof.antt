@@ -1,4 +1,4 @@
--- The sums move down, the count by one, and the last code stays unless it is the code.
+-- The sums move down, the count by one, and the last code stays unless it is the residue.
 -- Assumes nothing.
 use mathlib.Core.Path.{_≡_}
 use mathlib.Core.Bool.{true}
