@@ -162,13 +162,12 @@ def insert(s, code):
 
 
 def remove(s, code):
-    """Sum k falls by x^k, the count by 1 modulo 2^32."""
+    """Sum k falls by x^k, the count by 1 modulo 2^32, last becomes none if it equals x."""
     if not well_formed(s):
         return 12, s
     x, p = residue(s.kind, code), s.kind.modulus
     sums = [(a - b) % p for a, b in zip(s.sums(), powers(s.kind, x, s.threshold))]
-    # The stored last code is compared with the code as given, unreduced.
-    last = None if s.last == code else s.last
+    last = None if s.last == x else s.last
     return 0, Sketch(s.kind, s.threshold, filled(s.kind, sums), (s.count - 1) % COUNTS, last)
 
 
@@ -518,8 +517,9 @@ def sketch_cases_32():
     yield "P10", (p10.sums(), p10.count, p10.last), ((4294967290, 4294967288), 0, 1)
     yield "P10", listed(p10, [1, 2]), []
     p11 = sketch_of(BITS32, 2, [4294967295])
-    kept, gone = remove(p11, 4294967295)[1], remove(p11, 4)[1]
-    yield "P11", (kept.sums(), kept.last, gone.sums(), gone.last), ((0, 0), 4, (0, 0), None)
+    for code in (4294967295, 4):
+        gone = remove(p11, code)[1]
+        yield "P11", (gone.sums(), gone.count, gone.last), ((0, 0), 0, None)
     yield "P12", [read(BITS32, bytes(n))[0] for n in (7, 8, 11, 140)], [6, 7, 7, 7]
     yield "P12", read_thresholds(BITS32, (12, 139)), [(0, 1), (0, 32)]
     yield "limit", [read(BITS32, packet(BITS32, 1, 1, [n]))[0] for n in (4294967290, 4294967291)], [0, 8]
@@ -549,8 +549,9 @@ def sketch_cases_16():
     yield "1/12 count", (below.count, below.sums(), words_of(below)), (4294967295, (65520,), [1, 65535, 65535, 0, 0, 65520])
     yield "1/12 count", (write(below, bytearray(8))[0], listed(below, [1])), (3, 4)
     above = sketch_of(BITS16, 2, [65535])
-    kept, gone = remove(above, 65535)[1], remove(above, 14)[1]
-    yield "1/12 last code", (kept.sums(), kept.last, gone.sums(), gone.last), ((0, 0), 14, (0, 0), None)
+    for code in (65535, 14):
+        gone = remove(above, code)[1]
+        yield "1/12 last code", (gone.sums(), gone.count, gone.last), ((0, 0), 0, None)
     yield "1/12 lengths", [read(BITS16, bytes(n))[0] for n in (0, 5, 6, 7, 72, 73)], [6, 6, 7, 7, 7, 7]
     yield "1/12 lengths", read_thresholds(BITS16, (8, 9, 10, 70, 71)), [(0, 1), (0, 1), (0, 2), (0, 32), (0, 32)]
     yield "1/12 sums read", [read(BITS16, packet(BITS16, 1, 1, [n]))[0] for n in (65520, 65521, 65535)], [0, 8, 8]

@@ -1,7 +1,8 @@
 //! The rules of words, packets and coefficients, tried through: every threshold in slices of every length, and every
 //! fault that words can have, each given to every call on sketches as each of its arguments; packets of every length
-//! and with every fault; counts and pairs of counts at every edge; every number of coefficients; products that leave
-//! next to nothing or next to the prime; and, at 16 bits, every code to each operation on one.
+//! and with every fault; counts and pairs of counts at every edge; last codes and removed codes at every edge; every
+//! number of coefficients; products that leave next to nothing or next to the prime; and, at 16 bits, every code to
+//! each operation on one.
 
 use crate::cases::COUNTS;
 use crate::op::{Op, LONGEST};
@@ -145,6 +146,23 @@ impl Sweep {
         ops
     }
 
+    /// No last code and each of the first and the last residues as one; and each of these codes, and every code of the
+    /// prime or more, removed.
+    fn last_codes(&mut self) -> Vec<Op> {
+        const NEAR: u32 = 20;
+        let (width, p) = (self.width, self.width.modulus);
+        let words = self.sketch(2)[..width.words(2)].to_vec();
+        let put = |has, last| {
+            let mut copy = words.clone();
+            copy[width.has_last()..width.sums()].copy_from_slice(&[has, last]);
+            Op::Put { slot: TRIED, words: copy }
+        };
+        let lasts: Vec<u32> = (0..=NEAR).chain(p - 1 - NEAR..p).collect();
+        let starts: Vec<Op> = std::iter::once(put(0, 0)).chain(lasts.iter().map(|&last| put(1, last))).collect();
+        let codes = || lasts.iter().copied().chain(p..=width.greatest());
+        starts.iter().flat_map(|put| codes().flat_map(|code| [put.clone(), Op::Remove { slot: TRIED, code }])).collect()
+    }
+
     /// A packet of a length whose sums are below the prime; the same with the prime, the greatest number below it and
     /// the greatest of all as each sum and as the last code, and with 255 in the bytes behind; bytes all 0 and all 255.
     fn packets_of(&mut self, length: usize) -> Vec<Vec<u8>> {
@@ -262,6 +280,7 @@ impl Sweep {
 pub fn sweep(width: &'static Width) -> Vec<Op> {
     let mut sweep = Sweep { width, rng: Rng::new(1) };
     let mut ops = [sweep.words(), sweep.counts(), sweep.packets(), sweep.coefficients(), sweep.products()].concat();
+    ops.extend(sweep.last_codes());
     if width.bits == 16 {
         ops.extend(sweep.every_code());
         ops.extend(sweep.every_code_in_and_out());

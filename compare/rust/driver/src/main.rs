@@ -150,6 +150,14 @@ fn compare<S: Published, C: Calls>(operations: u64, seed: u64) -> u64 {
     }
     println!("operations by kind at {} bits, seed {seed}:", width.bits);
     tally.print(width);
+    println!(
+        "  {} removals of a code of the prime or more whose residue is the last code; the Rust keeps it at {}, as listed",
+        oracle.keeping, oracle.kept
+    );
+    if oracle.keeping == 0 || oracle.kept != oracle.keeping {
+        differences += 1;
+        println!("difference: the Rust is to keep such a last code each time, and there is to be one");
+    }
     println!("compared {operations} operations at {} bits with {}: {differences} differences", width.bits, S::NAME);
     differences
 }
