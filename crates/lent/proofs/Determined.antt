@@ -3,6 +3,7 @@
 use Prim.Native.Nat.{ℕ}
 use mathlib.Core.Path.{_≡_, _∙_, sym}
 use mathlib.Core.List.{List}
+use lib.IntN.{ℤ}
 use contract.Lifetimes.{Lfts}
 use denote.Ref.{RefT, now}
 use Rattle.rules.specs.Determines.{Determines}
@@ -13,6 +14,9 @@ use Rattle.lent.proofs.smaller.Reads as smaller
 use Rattle.lent.proofs.put_number.Reads as put-number
 use Rattle.lent.proofs.number_of.Reads as number-of
 use Rattle.lent.proofs.count_of.Reads as count-of
+use Rattle.lent.proofs.signed.Reads as signed
+use Rattle.lent.proofs.size.Reads as size
+use Rattle.lent.proofs.below_zero.Reads as below-zero
 
 -- A promise determines what a lent slice holds at the end: any two that it allows hold the same.
 abbrev pub Leaves : (RefT (List ℕ) → Type 0) → Type 0
@@ -45,3 +49,15 @@ number-of-determined κs part part′ r r′ p q = p .0 ∙ sym (q .0)
 -- A packet says one count.
 pub count-of-determined : (κs : Lfts 1) (part part′ : RefT (List ℕ)) → Determines (λ r. count-of.Post κs (part, tt) r (part′, tt))
 count-of-determined κs part part′ = by-equation _
+
+-- A count has one reading as a signed number.
+pub signed-determined : (n : ℕ) → Determines (λ r. signed.Post tt (n, tt) r (n, tt))
+signed-determined n = by-equation _
+
+-- A signed number has one size.
+pub size-determined : (z : ℤ) → Determines (λ r. size.Post tt (z, tt) r (z, tt))
+size-determined z = by-equation _
+
+-- A signed number is below zero by one number.
+pub below-zero-determined : (z : ℤ) → Determines (λ r. below-zero.Post tt (z, tt) r (z, tt))
+below-zero-determined z = by-equation _

@@ -7,4 +7,5 @@ pub mod Once
 pub mod Determined
 pub mod Wrong
 mod Bytes
+mod Registers
 mod Walk

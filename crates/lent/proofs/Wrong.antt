@@ -3,9 +3,11 @@
 use Prim.Native.Nat.{ℕ}
 use mathlib.Core.Path.{refl}
 use mathlib.Core.List.{List, [], _∷_}
+use lib.IntN.{pos, negsuc}
 use lib.ListN.{getD}
 use contract.Lifetimes.{Lfts}
 use Rattle.rules.specs.Determines.{RefusesBoth}
+use Rattle.rules.specs.Signed.{signedCount, belowZero}
 use Rattle.rules.specs.Packet.{bytes, number}
 use Rattle.rules.proofs.Determined.{lent, differs, both-differ}
 use Rattle.lent.specs.declared.Number.{Number}
@@ -16,6 +18,9 @@ use Rattle.lent.proofs.smaller.Reads as smaller
 use Rattle.lent.proofs.put_number.Reads as put-number
 use Rattle.lent.proofs.number_of.Reads as number-of
 use Rattle.lent.proofs.count_of.Reads as count-of
+use Rattle.lent.proofs.signed.Reads as signed
+use Rattle.lent.proofs.size.Reads as size
+use Rattle.lent.proofs.below_zero.Reads as below-zero
 
 -- A refusal is said to be none, or to have written something.
 pub refused-wrong : RefusesBoth (λ r. refused.Post tt (5, tt) r (5, tt)) (counted 0) (counted 5)
@@ -45,3 +50,16 @@ pub count-of-wrong : (κs : Lfts 1)
     → RefusesBoth (λ r. count-of.Post κs (lent (2 ∷ 1 ∷ 0 ∷ 0 ∷ 1 ∷ []), tt) r (lent (2 ∷ 1 ∷ 0 ∷ 0 ∷ 1 ∷ []), tt)) 33619968 4294967554
 unfolding number
 count-of-wrong κs = both-differ (λ (n : ℕ). n) _ _ refl refl
+
+-- The least count that is negative is taken as it is, or as the next above the lowest number.
+pub signed-wrong : RefusesBoth (λ r. signed.Post tt (2147483648, tt) r (2147483648, tt)) (pos 2147483648) (negsuc 2147483646)
+unfolding signedCount
+signed-wrong = both-differ belowZero _ _ refl refl
+
+-- The size of the lowest number is that of the greatest, or nothing.
+pub size-wrong : RefusesBoth (λ r. size.Post tt (negsuc 2147483647, tt) r (negsuc 2147483647, tt)) 2147483647 0
+size-wrong = both-differ (λ (n : ℕ). n) _ _ refl refl
+
+-- -5 is below zero by nothing, or by 4.
+pub below-zero-wrong : RefusesBoth (λ r. below-zero.Post tt (negsuc 4, tt) r (negsuc 4, tt)) 0 4
+below-zero-wrong = both-differ (λ (n : ℕ). n) _ _ refl refl

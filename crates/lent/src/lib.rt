@@ -1,9 +1,11 @@
 // What every width of code does with slices that are lent: numbers as bytes, the lowest byte first, and the answer of a call that writes a
-// list.
+// list. And counts as signed numbers.
 ghost use mathlib.Core.Path.{_≡_};
 ghost use Prim.Native.Nat.{_<_, _^_, min};
+ghost use lib.IntN.{natAbs};
 ghost use lib.ListN.{length, take};
 ghost use Rattle.rules.specs.Kind.{countBytes};
+ghost use Rattle.rules.specs.Signed.{signedCount, belowZero};
 ghost use Rattle.rules.specs.Packet.{bytes, number};
 ghost use Rattle.rules.specs.Calls.{refused};
 ghost use Rattle.lent.specs.Answers.{numbered, counted};
@@ -76,4 +78,35 @@ pub fn count_of(part: &[u8]) -> u32
 {
     let end = smaller(part.len(), COUNT_BYTES);
     number_of(&part[0..end]) as u32
+}
+
+// A count read as a signed difference: negative from 2^31 on.
+pub fn signed(count: u32) -> i32
+    ensures { λ r. ⌜ r ≡ signedCount count ⌝ }
+{
+    if count < 2147483648 {
+        count as i32
+    } else {
+        let past = (4294967295 - count) as i32;
+        -1 - past
+    }
+}
+
+// The size of a signed number. That of the lowest is no signed number, so one is added once it is unsigned.
+pub fn size(number: i32) -> u32
+    ensures { λ r. ⌜ r ≡ natAbs number ⌝ }
+{
+    if number < 0 {
+        let past = -1 - number;
+        (past as u32) + 1
+    } else {
+        number as u32
+    }
+}
+
+// How many a signed number is below zero, 0 for one that is not.
+pub fn below_zero(number: i32) -> u32
+    ensures { λ r. ⌜ r ≡ belowZero number ⌝ }
+{
+    if number < 0 { size(number) } else { 0 }
 }

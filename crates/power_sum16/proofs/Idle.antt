@@ -14,6 +14,7 @@ use Rattle.numbers.specs.Table.{every}
 use Rattle.modint16.specs.declared.Code.{Code}
 use Rattle.modint16.specs.Answers.{val}
 use Rattle.rules.specs.Kind.{kind16}
+use Rattle.rules.specs.Signed.{signedCount}
 use Rattle.rules.specs.Sketch as sketch
 use Rattle.rules.specs.Sketch.{fresh, each, wellFormed}
 use Rattle.rules.specs.Packet.{bytes, number, allBytes, allNumbers, packet, packetLength}
@@ -25,14 +26,16 @@ use Rattle.lent.specs.declared.Number.{Number}
 use Rattle.power_sum16.specs.declared.power_sum.PowerSumQuackU16.{PowerSumQuackU16}
 use Rattle.power_sum16.specs.declared.power_sum.Answer.{Answer}
 use Rattle.power_sum16.specs.Answers.{built, answered, newOf, insertOf, removeOf, subAssignOf, subOf, coefficientsOf, decodeOf}
-use Rattle.power_sum16.specs.Answers.{writeOf, writeWithHintOf, readOf}
+use Rattle.power_sum16.specs.Answers.{negateOf, decodeSurplusOf, writeOf, writeWithHintOf, readOf}
 use Rattle.power_sum16.proofs.power_sum.PowerSumQuackU16.new.Reads as new
 use Rattle.power_sum16.proofs.power_sum.PowerSumQuackU16.insert.Reads as insert
 use Rattle.power_sum16.proofs.power_sum.PowerSumQuackU16.remove.Reads as remove
 use Rattle.power_sum16.proofs.power_sum.PowerSumQuackU16.sub_assign.Reads as sub-assign
 use Rattle.power_sum16.proofs.power_sum.PowerSumQuackU16.sub.Reads as sub
+use Rattle.power_sum16.proofs.power_sum.PowerSumQuackU16.negate.Reads as negate
 use Rattle.power_sum16.proofs.power_sum.PowerSumQuackU16.to_coeffs.Reads as to-coeffs
 use Rattle.power_sum16.proofs.power_sum.PowerSumQuackU16.decode_with_log.Reads as decode-with-log
+use Rattle.power_sum16.proofs.power_sum.PowerSumQuackU16.decode_surplus_with_log.Reads as decode-surplus-with-log
 use Rattle.power_sum16.proofs.power_sum.PowerSumQuackU16.serialize.Reads as serialize
 use Rattle.power_sum16.proofs.power_sum.PowerSumQuackU16.serialize_with_hint.Reads as serialize-with-hint
 use Rattle.power_sum16.proofs.power_sum.PowerSumQuackU16.deserialize.Reads as deserialize
@@ -48,6 +51,10 @@ none = built (fresh 3)
 -- The sketch of threshold 3 with the codes 10 and 12 in it.
 abbrev pub both : PowerSumQuackU16
 both = built (sketch.insert kind16 (sketch.insert kind16 (fresh 3) 10) 12)
+
+-- The sketch of threshold 3 with the codes 10 and 12 taken out of it.
+abbrev pub gone : PowerSumQuackU16
+gone = built (sketch.remove kind16 (sketch.remove kind16 (fresh 3) 10) 12)
 
 -- What is read off an answer: its refusal, and its first sum.
 abbrev pub refusal : Answer → ℕ
@@ -87,6 +94,11 @@ sub-assign-must-answer = must-answer refusal refl
 pub sub-must-answer : MustAnswer refusal (holds (sub.Post tt) (both, (none, tt)))
 unfolding sketch.insert fresh each every wellFormed subOf calls.sub sketch.subtract
 sub-must-answer = must-answer refusal refl
+
+-- Negation is not refused.
+pub negate-must-answer : MustAnswer refusal (holds (negate.Post tt) (both, tt))
+unfolding sketch.insert fresh each every wellFormed negateOf calls.negate sketch.negate
+negate-must-answer = must-answer refusal refl
 
 -- Coefficients, into two places.
 pub to-coeffs-must-answer : (κs : Lfts 1) (buf₁ : RefT (List ℕ))
@@ -145,4 +157,23 @@ module _ (κs : Lfts 2) (log₁ : RefT (List ℕ)) where
   unfolding sketch.insert fresh each every wellFormed decodeOf calls.decode decoding.decode decoding.coefficients decoding.evaluate decoding.newestFirst
       powerMod powerWithin
   fixed-list-falls r out₁ p =
+      (λ e. differs (λ (l : List ℕ). getD l 0 0) (0 ∷ 0 ∷ []) refl (sym e ∙ p .1), λ e. differs (λ (l : List ℕ). getD l 0 0) (1 ∷ 10 ∷ []) refl (sym e ∙ p .1))
+
+-- ---- decoding the surplus, among the got codes 1, 10 into a buffer of two places
+
+module _ (κs : Lfts 2) (got₁ : RefT (List ℕ)) where
+  -- What decoding the surplus of a sketch has to show of an answer and of the buffer.
+  abbrev Surplus : PowerSumQuackU16 → Number → RefT (List ℕ) → Type 0
+  Surplus s r out₁ = decode-surplus-with-log.Post κs (s, (lent (1 ∷ 10 ∷ []), (lent (0 ∷ 0 ∷ []), tt))) r (s, (got₁, (out₁, tt)))
+
+  -- It is not refused, with a count below zero or above.
+  pub surplus-must-answer : (out₁ : RefT (List ℕ)) → MustAnswer refused (λ r. Surplus gone r out₁) × MustAnswer refused (λ r. Surplus both r out₁)
+  unfolding sketch.insert sketch.remove fresh each every wellFormed signedCount decodeSurplusOf calls.decodeSurplus
+  surplus-must-answer out₁ = (λ a t p. must-answer refused refl a t (p .0), λ a t p. must-answer refused refl a t (p .0))
+
+  -- The empty list leaves the buffer as it was, and all got codes fill it.
+  pub fixed-surplus-falls : (r : Number) (out₁ : RefT (List ℕ)) → Surplus gone r out₁ → (now out₁ ≡ 0 ∷ 0 ∷ [] → ⊥) × (now out₁ ≡ 1 ∷ 10 ∷ [] → ⊥)
+  unfolding sketch.remove sketch.negate fresh each every wellFormed signedCount decodeSurplusOf calls.decodeSurplus decoding.surplus decoding.decode
+      decoding.coefficients decoding.evaluate decoding.newestFirst powerMod powerWithin
+  fixed-surplus-falls r out₁ p =
       (λ e. differs (λ (l : List ℕ). getD l 0 0) (0 ∷ 0 ∷ []) refl (sym e ∙ p .1), λ e. differs (λ (l : List ℕ). getD l 0 0) (1 ∷ 10 ∷ []) refl (sym e ∙ p .1))

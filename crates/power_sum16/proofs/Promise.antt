@@ -1,11 +1,12 @@
 -- The promise for the calls that run: along any history none of whose calls is refused, the list that `decode_with_log` leaves in the buffer that it was
--- lent is exact. What a call answers is whatever its contract allows.
+-- lent is exact, and so, with the roles changed, is that of `decode_surplus_with_log`. What a call answers is whatever its contract allows.
 -- Assumes nothing.
 use Prim.Native.Nat.{ℕ, _*_, _≤_}
 use mathlib.Core.Path.{_≡_, refl, sym, _∙_, ap}
 use mathlib.Core.Bool.{true, false≢true}
 use mathlib.Core.List.{List, _++_}
 use mathlib.Core.Logic.{_⊎_, ⊎-elim}
+use lib.IntN.{ℤ, pos, negℤ}
 use lib.ListN.{length, take, drop}
 use borrow.Author.Tests.{eq-eqb}
 use contract.Lifetimes.{Lfts}
@@ -17,8 +18,8 @@ use Rattle.rules.specs.Field.{residue}
 use Rattle.rules.specs.Sketch.{Sketch}
 use Rattle.rules.specs.Packet.{bytes, number, sumsAt, sumsIn}
 use Rattle.rules.specs.Calls.{Outcome, refused, given}
-use Rattle.rules.specs.History.{History, net}
-use Rattle.rules.specs.Run.{Calls, Ran, LeftIn, missing}
+use Rattle.rules.specs.History.{History, net, excess}
+use Rattle.rules.specs.Run.{Calls, Ran, LeftIn, missing, ExceedsIn, surplusAmong}
 use Rattle.rules.proofs.Outcomes.{Numbered, make-numbered, insert-numbered, remove-numbered, sub-assign-numbered, sub-numbered}
 use Rattle.rules.proofs.Outcomes.{write-numbered, hint-numbered, read-numbered}
 use Rattle.rules.proofs.Run as run
@@ -30,7 +31,7 @@ use Rattle.lent.proofs.Types.{Promised}
 use Rattle.power_sum16.specs.declared.power_sum.PowerSumQuackU16.{PowerSumQuackU16}
 use Rattle.power_sum16.specs.declared.power_sum.Answer.{Answer}
 use Rattle.power_sum16.specs.Answers.{view, built, wellFormedOf, empty, answered, sketchAnswer, newOf, insertOf, removeOf, subAssignOf, subOf}
-use Rattle.power_sum16.specs.Answers.{decodeOf, writeOf, writeWithHintOf, readOf}
+use Rattle.power_sum16.specs.Answers.{decodeOf, decodeSurplusOf, writeOf, writeWithHintOf, readOf}
 use Rattle.power_sum16.proofs.Struct.{view-built, built-well-formed}
 use Rattle.power_sum16.proofs.InPlace.{types}
 use Rattle.power_sum16.proofs.power_sum.PowerSumQuackU16.new.Reads as new
@@ -39,6 +40,8 @@ use Rattle.power_sum16.proofs.power_sum.PowerSumQuackU16.remove.Reads a
 use Rattle.power_sum16.proofs.power_sum.PowerSumQuackU16.sub_assign.Reads as sub-assign
 use Rattle.power_sum16.proofs.power_sum.PowerSumQuackU16.sub.Reads as sub
 use Rattle.power_sum16.proofs.power_sum.PowerSumQuackU16.decode_with_log.Reads as decode-with-log
+use Rattle.power_sum16.proofs.power_sum.PowerSumQuackU16.signed_count.Reads as signed-count
+use Rattle.power_sum16.proofs.power_sum.PowerSumQuackU16.decode_surplus_with_log.Reads as decode-surplus-with-log
 use Rattle.power_sum16.proofs.power_sum.PowerSumQuackU16.serialize.Reads as serialize
 use Rattle.power_sum16.proofs.power_sum.PowerSumQuackU16.serialize_with_hint.Reads as serialize-with-hint
 use Rattle.power_sum16.proofs.power_sum.PowerSumQuackU16.deserialize.Reads as deserialize
@@ -71,17 +74,45 @@ pub record Read (bs : List ℕ) (s : PowerSumQuackU16) : Type 0 where
   pub bytes : now packet ≡ bs
   pub promised : deserialize.Post κs (packet, tt) (answered 0 s) (packet₁, tt)
 
--- A log is decoded into a lent buffer.
-pub record Decoded (s : PowerSumQuackU16) (log out : List ℕ) (r n : ℕ) (out₁ : List ℕ) : Type 0 where
+-- What a contract promises of a call that is lent entries to read and a buffer for those that it lists: the entries and the buffer before and after, and the
+-- answer.
+abbrev pub Lists : Type 1
+Lists = Lfts 2 → RefT (List ℕ) → RefT (List ℕ) → RefT (List ℕ) → RefT (List ℕ) → Number → Type 0
+
+-- Decoding a log by a sketch.
+abbrev pub decoding : PowerSumQuackU16 → Lists
+decoding s κs log log₁ out out₁ r = decode-with-log.Post κs (s, (log, (out, tt))) r (s, (log₁, (out₁, tt)))
+
+-- Decoding the surplus of a sketch among got codes.
+abbrev pub decodingSurplus : PowerSumQuackU16 → Lists
+decodingSurplus s κs got got₁ out out₁ r = decode-surplus-with-log.Post κs (s, (got, (out, tt))) r (s, (got₁, (out₁, tt)))
+
+-- Entries are listed in a lent buffer by such a call.
+pub record Listed (promises : Lists) (entries out : List ℕ) (r n : ℕ) (out₁ : List ℕ) : Type 0 where
   pub κs : Lfts 2
-  pub log-lent : RefT (List ℕ)
-  pub log-lent₁ : RefT (List ℕ)
+  pub entries-lent : RefT (List ℕ)
+  pub entries-lent₁ : RefT (List ℕ)
   pub out-lent : RefT (List ℕ)
   pub out-lent₁ : RefT (List ℕ)
-  pub the-log : now log-lent ≡ log
+  pub the-entries : now entries-lent ≡ entries
   pub the-buffer : now out-lent ≡ out
   pub left : now out-lent₁ ≡ out₁
-  pub promised : decode-with-log.Post κs (s, (log-lent, (out-lent, tt))) (record { refusal = r; value = n }) (s, (log-lent₁, (out-lent₁, tt)))
+  pub promised : promises κs entries-lent entries-lent₁ out-lent out-lent₁ (record { refusal = r; value = n })
+
+-- A promise met by some call is such a list.
+listed : {promises : Lists} (κs : Lfts 2) (entries entries₁ out out₁ : RefT (List ℕ)) (r : Number) → promises κs entries entries₁ out out₁ r
+    → Listed promises (now entries) (now out) (r .refusal) (r .value) (now out₁)
+listed κs entries entries₁ out out₁ r p = record {
+  κs = κs;
+  entries-lent = entries;
+  entries-lent₁ = entries₁;
+  out-lent = out;
+  out-lent₁ = out₁;
+  the-entries = refl;
+  the-buffer = refl;
+  left = refl;
+  promised = p;
+}
 
 -- The calls by what their contracts allow without a refusal. Insert and remove run by value or in place.
 abbrev pub the-calls : Calls
@@ -99,7 +130,8 @@ the-calls = record {
   writes = Wrote;
   writesWithHint = WroteWithHint;
   reads = Read;
-  decodes = Decoded;
+  decodes = λ s. Listed (decoding s);
+  decodesSurplus = λ s. Listed (decodingSurplus s);
 }
 
 -- ---- they answer what the rules say
@@ -117,7 +149,7 @@ gives-in-place : (s₀ : PowerSumQuackU16) (o : Outcome Sketch) → Numbered o �
 gives-in-place s₀ o h s p = gives s₀ o h s (λ i. answered (p .0 i) (p .1 i))
 
 sound : Sound kind16 the-calls
-unfolding newOf insertOf removeOf subAssignOf subOf writeOf writeWithHintOf readOf decodeOf
+unfolding newOf insertOf removeOf subAssignOf subOf writeOf writeWithHintOf readOf decodeOf decodeSurplusOf
 sound = record {
   makes = λ t s p. gives empty _ (make-numbered kind16 t) s p;
   inserts = λ s s′ c p. ⊎-elim (gives s _ (insert-numbered kind16 _ (view s) (c .0)) s′) (gives-in-place s _ (insert-numbered kind16 _ (view s) (c .0)) s′) p;
@@ -132,7 +164,10 @@ sound = record {
       (length (now (p .buf)), h .comes ∙ ap given (sym (p .bytes ∙ h .front)));
   reads = λ bs s p. gives empty _ (read-numbered kind16 bs) s (rw (p .bytes) at (p .promised));
   decodes = λ s log out r n out₁ p.
-      let q = rw (p .the-log, p .the-buffer) at (p .promised) in
+      let q = rw (p .the-entries, p .the-buffer) at (p .promised) in
+      (ap (λ (a : Number). a .refusal) (q .0), ap (λ (a : Number). a .value) (q .0), sym (p .left) ∙ q .1);
+  decodesSurplus = λ s got out r n out₁ p.
+      let q = rw (p .the-entries, p .the-buffer) at (p .promised) in
       (ap (λ (a : Number). a .refusal) (q .0), ap (λ (a : Number). a .value) (q .0), sym (p .left) ∙ q .1);
 }
 
@@ -154,24 +189,36 @@ pub decode-exact : {h : History} {s : PowerSumQuackU16} {n : ℕ} → Ran the-ca
     → (r ≡ counted (length (missing kind16 h (now log))))
     × (now out₁ ≡ missing kind16 h (now log) ++ drop (length (missing kind16 h (now log))) (now out))
 decode-exact ran left κs log log₁ out out₁ r room p =
-    let decoded : Decoded _ (now log) (now out) (r .refusal) (r .value) (now out₁) = record {
-      κs = κs;
-      log-lent = log;
-      log-lent₁ = log₁;
-      out-lent = out;
-      out-lent₁ = out₁;
-      the-log = refl;
-      the-buffer = refl;
-      left = refl;
-      promised = p;
-    } in
-    let d = run.decode-exact kind16 the-calls sound ran left (now log) (now out) (r .refusal) (r .value) (now out₁) room decoded in
+    let d = run.decode-exact kind16 the-calls sound ran left (now log) (now out) (r .refusal) (r .value) (now out₁) room (listed κs log log₁ out out₁ r p) in
     (λ i. record { refusal = d .0 i; value = d .1 i }, d .2)
 
 -- Two sketches that leave equally many, with the same first sums, leave the same: their net numbers agree, residue by residue.
 pub same-net : {h g : History} {s o : PowerSumQuackU16} {n : ℕ} → Ran the-calls h s → LeftIn kind16 h (s .threshold) n → Ran the-calls g o
     → LeftIn kind16 g (o .threshold) n → take n (view s .sums) ≡ take n (view o .sums) → (r : ℕ) → net kind16 h r ≡ net kind16 g r
 same-net ran left other also e = run.same-net kind16 the-calls sound ran left other also e
+
+-- ---- the promise with the roles changed
+
+-- The signed count is how many are surplus, below zero.
+pub signed-exact : {h : History} {s : PowerSumQuackU16} {n : ℕ} → Ran the-calls h s → ExceedsIn kind16 h (s .threshold) n
+    → (r : ℤ) → signed-count.Post tt (s, tt) r (s, tt) → r ≡ negℤ (pos n)
+signed-exact ran over r p = p ∙ run.signed-exact kind16 the-calls sound ran over
+
+-- Decoding the surplus among any got codes, with room for them, is not refused, answers how many of them are surplus, and leaves exactly those at the
+-- front of the lent buffer; the buffer's later places are as they were.
+pub surplus-exact : {h : History} {s : PowerSumQuackU16} {n : ℕ} → Ran the-calls h s → ExceedsIn kind16 h (s .threshold) n
+    → (κs : Lfts 2) (got got₁ out out₁ : RefT (List ℕ)) (r : Number) → length (now got) ≤ length (now out)
+    → decode-surplus-with-log.Post κs (s, (got, (out, tt))) r (s, (got₁, (out₁, tt)))
+    → (r ≡ counted (length (surplusAmong kind16 h (now got))))
+    × (now out₁ ≡ surplusAmong kind16 h (now got) ++ drop (length (surplusAmong kind16 h (now got))) (now out))
+surplus-exact ran over κs got got₁ out out₁ r room p =
+    let d = run.surplus-exact kind16 the-calls sound ran over (now got) (now out) (r .refusal) (r .value) (now out₁) room (listed κs got got₁ out out₁ r p) in
+    (λ i. record { refusal = d .0 i; value = d .1 i }, d .2)
+
+-- Two sketches with equally many surplus, and the same first sums, have the same surplus: their net numbers agree, residue by residue.
+pub same-excess : {h g : History} {s o : PowerSumQuackU16} {n : ℕ} → Ran the-calls h s → ExceedsIn kind16 h (s .threshold) n → Ran the-calls g o
+    → ExceedsIn kind16 g (o .threshold) n → take n (view s .sums) ≡ take n (view o .sums) → (r : ℕ) → excess kind16 h r ≡ excess kind16 g r
+same-excess ran over other also e = run.same-excess kind16 the-calls sound ran over other also e
 
 -- ---- a packet
 

@@ -7,6 +7,7 @@ use mathlib.Core.List.{List, [], _∷_, _++_}
 use mathlib.Core.Logic.{inl, inr}
 use native.Mathlib.Omega.{arith}
 use lib.Dec.{lit≤}
+use lib.IntN.{ℤ, negsuc}
 use lib.ListN.{replicate}
 use contract.Lifetimes.{Lfts}
 use denote.Ref.{RefT, now}
@@ -18,8 +19,8 @@ use Rattle.rules.specs.Sketch.{Sketch, fresh, insert, remove, subtract, cut, ea
 use Rattle.rules.specs.Packet.{bytes, number, allBytes, allNumbers, packet, sketchIn}
 use Rattle.rules.specs.Calls as calls
 use Rattle.rules.specs.History as history
-use Rattle.rules.specs.History.{History, net}
-use Rattle.rules.specs.Run.{Ran, made, inserted, removed, subtractedInPlace, subtracted, carriedByHint, LeftIn}
+use Rattle.rules.specs.History.{History, net, excess}
+use Rattle.rules.specs.Run.{Ran, made, inserted, removed, subtractedInPlace, subtracted, carriedByHint, LeftIn, ExceedsIn}
 use Rattle.rules.proofs.Each.{every-below}
 use Rattle.rules.proofs.Determined.{lent}
 use Rattle.lent.specs.declared.Number.{Number}
@@ -27,8 +28,10 @@ use Rattle.lent.specs.Answers.{counted}
 use Rattle.power_sum16.specs.declared.power_sum.PowerSumQuackU16.{PowerSumQuackU16}
 use Rattle.power_sum16.specs.Answers.{built, newOf, insertOf, removeOf, subAssignOf, subOf, writeWithHintOf, readOf}
 use Rattle.power_sum16.proofs.Idle.{code}
-use Rattle.power_sum16.proofs.Promise.{the-calls, decode-exact, same-net, Wrote, Read, read-and-written}
+use Rattle.power_sum16.proofs.Promise.{the-calls, decode-exact, same-net, signed-exact, surplus-exact, same-excess, Wrote, Read, read-and-written}
 use Rattle.power_sum16.proofs.power_sum.PowerSumQuackU16.decode_with_log.Reads as decode-with-log
+use Rattle.power_sum16.proofs.power_sum.PowerSumQuackU16.signed_count.Reads as signed-count
+use Rattle.power_sum16.proofs.power_sum.PowerSumQuackU16.decode_surplus_with_log.Reads as decode-surplus-with-log
 
 -- The sketch of threshold 3 from which 5 is removed before it is inserted, and into which 7, 11 and 13 are.
 abbrev put : Sketch
@@ -101,6 +104,56 @@ ran-two = inserted (code 9) (inserted (code 7) (made 2 refl) (inl refl)) (inl re
 pub limit-same : Lfts 1 → (r : ℕ) → net kind16 calls-made r ≡ net kind16 two-inserted r
 unfolding fresh insert remove subtract cut each
 limit-same κs = same-net (ran κs) two-left ran-two (record { none-below = λ r. omega arith; in-all = refl; enough = lit≤ tt }) refl
+
+-- ---- more came than was sent
+
+-- The sketch of threshold 2 with 5 put in, less that with 5, 7 and the prime put in: 7 and 0 are surplus.
+abbrev over : Sketch
+over = subtract kind16 (insert kind16 (fresh 2) 5) (insert kind16 (insert kind16 (insert kind16 (fresh 2) 5) 7) 65521)
+
+-- The history of these calls.
+abbrev calls-over : History
+calls-over =
+    history.subAssign (history.insert (history.fresh 2) 5)
+    (history.insert (history.insert (history.insert (history.fresh 2) 5) 7) 65521)
+
+-- The calls run so.
+ran-over : Ran the-calls calls-over (built over)
+unfolding fresh insert subtract each every wellFormed newOf insertOf subAssignOf calls.make calls.insert calls.subAssign
+ran-over =
+    subtractedInPlace (inserted (code 5) (made 2 refl) (inl refl))
+    (inserted (code 65521) (inserted (code 7) (inserted (code 5) (made 2 refl) (inl refl)) (inl refl)) (inl refl)) refl
+
+-- Two are surplus, and two sums are kept.
+two-over : ExceedsIn kind16 calls-over 2 2
+two-over = record { none-above = λ r. omega arith; in-all = refl; few = lit≤ tt }
+
+-- The signed count is -2.
+pub limit-signed : (r : ℤ) → signed-count.Post tt (built over, tt) r (built over, tt) → r ≡ negsuc 1
+unfolding fresh insert subtract
+limit-signed r p = signed-exact ran-over two-over r p
+
+-- Decoding the surplus lists exactly them, with a repeat and both codes of the residue 0, in the order of the got codes.
+pub limit-surplus : (κs : Lfts 2) (got₁ out₁ : RefT (List ℕ)) (r : Number)
+    → decode-surplus-with-log.Post κs (built over, (lent (5 ∷ 7 ∷ 0 ∷ 7 ∷ 65521 ∷ []), (lent (replicate 5 9), tt))) r (built over, (got₁, (out₁, tt)))
+    → (r ≡ counted 4) × (now out₁ ≡ 7 ∷ 0 ∷ 7 ∷ 65521 ∷ 9 ∷ [])
+unfolding fresh insert subtract
+limit-surplus κs got₁ out₁ r p =
+    surplus-exact ran-over two-over κs (lent (5 ∷ 7 ∷ 0 ∷ 7 ∷ 65521 ∷ [])) got₁ (lent (replicate 5 9)) out₁ r (lit≤ tt) p
+
+-- A history of two removals has the same surplus.
+abbrev two-removed : History
+two-removed = history.remove (history.remove (history.fresh 2) 7) 0
+
+-- The calls of it run so.
+ran-removed : Ran the-calls two-removed (built (remove kind16 (remove kind16 (fresh 2) 7) 0))
+unfolding fresh remove each every wellFormed newOf removeOf calls.make calls.remove
+ran-removed = removed (code 0) (removed (code 7) (made 2 refl) (inl refl)) (inl refl)
+
+-- Both keep two sums, which are the same, so each residue has the same net number in both.
+pub limit-same-excess : (r : ℕ) → excess kind16 calls-over r ≡ excess kind16 two-removed r
+unfolding fresh insert remove subtract each
+limit-same-excess = same-excess ran-over two-over ran-removed (record { none-above = λ r. omega arith; in-all = refl; few = lit≤ tt }) refl
 
 -- ---- a packet
 

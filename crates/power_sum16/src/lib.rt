@@ -4,3 +4,4 @@ pub mod in_place;
 pub mod packet;
 pub mod power_sum;
 pub mod subtract;
+pub mod surplus;

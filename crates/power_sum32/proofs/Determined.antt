@@ -18,8 +18,11 @@ use Rattle.power_sum32.proofs.power_sum.PowerSumQuackU32.insert.Reads a
 use Rattle.power_sum32.proofs.power_sum.PowerSumQuackU32.remove.Reads as remove
 use Rattle.power_sum32.proofs.power_sum.PowerSumQuackU32.sub_assign.Reads as sub-assign
 use Rattle.power_sum32.proofs.power_sum.PowerSumQuackU32.sub.Reads as sub
+use Rattle.power_sum32.proofs.power_sum.PowerSumQuackU32.signed_count.Reads as signed-count
+use Rattle.power_sum32.proofs.power_sum.PowerSumQuackU32.negate.Reads as negate
 use Rattle.power_sum32.proofs.power_sum.PowerSumQuackU32.to_coeffs.Reads as to-coeffs
 use Rattle.power_sum32.proofs.power_sum.PowerSumQuackU32.decode_with_log.Reads as decode-with-log
+use Rattle.power_sum32.proofs.power_sum.PowerSumQuackU32.decode_surplus_with_log.Reads as decode-surplus-with-log
 use Rattle.power_sum32.proofs.power_sum.PowerSumQuackU32.serialize.Reads as serialize
 use Rattle.power_sum32.proofs.power_sum.PowerSumQuackU32.serialize_with_hint.Reads as serialize-with-hint
 use Rattle.power_sum32.proofs.power_sum.PowerSumQuackU32.deserialize.Reads as deserialize
@@ -65,6 +68,14 @@ module _ (s : PowerSumQuackU32) where
   pub sub-determined : (o : PowerSumQuackU32) → Determines (holds (sub.Post tt) (s, (o, tt)))
   sub-determined o = by-equation _
 
+  -- The signed count of a sketch has one answer.
+  pub signed-count-determined : Determines (holds (signed-count.Post tt) (s, tt))
+  signed-count-determined = by-equation _
+
+  -- Negation has one answer.
+  pub negate-determined : Determines (holds (negate.Post tt) (s, tt))
+  negate-determined = by-equation _
+
   -- The coefficients of a sketch have one answer, and leave one list of numbers in the buffer.
   pub to-coeffs-determined : (κs : Lfts 1) (buf : RefT (List ℕ)) → DeterminesBoth (λ r buf₁. to-coeffs.Post κs (s, (buf, tt)) r (s, (buf₁, tt)))
   to-coeffs-determined κs buf = by-equations _ _
@@ -73,6 +84,11 @@ module _ (s : PowerSumQuackU32) where
   pub decode-with-log-determined : (κs : Lfts 2) (log log₁ out : RefT (List ℕ))
       → DeterminesBoth (λ r out₁. decode-with-log.Post κs (s, (log, (out, tt))) r (s, (log₁, (out₁, tt))))
   decode-with-log-determined κs log log₁ out = by-equations _ _
+
+  -- Decoding the surplus has one answer, and leaves one list of codes in the buffer.
+  pub decode-surplus-with-log-determined : (κs : Lfts 2) (got got₁ out : RefT (List ℕ))
+      → DeterminesBoth (λ r out₁. decode-surplus-with-log.Post κs (s, (got, (out, tt))) r (s, (got₁, (out₁, tt))))
+  decode-surplus-with-log-determined κs got got₁ out = by-equations _ _
 
   -- Writing a packet has one answer, and leaves one list of bytes.
   pub serialize-determined : (κs : Lfts 1) (buf : RefT (List ℕ)) → DeterminesBoth (λ r buf₁. serialize.Post κs (s, (buf, tt)) r (s, (buf₁, tt)))

@@ -4,14 +4,16 @@ use Prim.Native.Nat.{ℕ, _+_, _-_}
 use mathlib.Core.Path.{refl}
 use mathlib.Core.Bool.{Bool, true, false, cond}
 use mathlib.Core.List.{List, [], _∷_}
+use lib.IntN.{pos, negsuc}
 use lib.ListN.{getD, replicate}
 use contract.Lifetimes.{Lfts}
 use denote.Ref.{RefT}
 use Rattle.numbers.specs.Power.{powerMod, powerWithin}
 use Rattle.numbers.specs.Table.{every}
 use Rattle.modint32.specs.Answers.{val, wrap}
-use Rattle.rules.specs.Kind.{kind32}
+use Rattle.rules.specs.Kind.{kind32, counts}
 use Rattle.rules.specs.Field.{residue}
+use Rattle.rules.specs.Signed.{signedCount, belowZero}
 use Rattle.rules.specs.Sketch as sketch
 use Rattle.rules.specs.Sketch.{fresh, each, wellFormed}
 use Rattle.rules.specs.Packet.{bytes, number, allBytes, allNumbers, packet, packetLength, sketchIn}
@@ -27,9 +29,9 @@ use Rattle.power_sum32.specs.declared.power_sum.Answer.{Answer}
 use Rattle.power_sum32.specs.declared.power_sum.Last.{Last}
 use Rattle.power_sum32.specs.declared.power_sum.Last.the-variants.{Nothing, Code}
 use Rattle.power_sum32.specs.Answers.{built, answered, newOf, insertOf, removeOf, subAssignOf, subOf, coefficientsOf, decodeOf}
-use Rattle.power_sum32.specs.Answers.{empty, writeOf, writeWithHintOf, readOf}
+use Rattle.power_sum32.specs.Answers.{empty, negateOf, decodeSurplusOf, writeOf, writeWithHintOf, readOf}
 use Rattle.power_sum32.proofs.InPlace.{types}
-use Rattle.power_sum32.proofs.Idle.{code, none, both, refusal, firstSum}
+use Rattle.power_sum32.proofs.Idle.{code, none, both, gone, refusal, firstSum}
 use Rattle.power_sum32.proofs.power_sum.PowerSumQuackU32.new.Reads as new
 use Rattle.power_sum32.proofs.power_sum.PowerSumQuackU32.threshold.Reads as threshold
 use Rattle.power_sum32.proofs.power_sum.PowerSumQuackU32.count.Reads as count
@@ -41,8 +43,11 @@ use Rattle.power_sum32.proofs.power_sum.PowerSumQuackU32.insert_once.Re
 use Rattle.power_sum32.proofs.power_sum.PowerSumQuackU32.remove_once.Reads as remove-once
 use Rattle.power_sum32.proofs.power_sum.PowerSumQuackU32.sub_assign.Reads as sub-assign
 use Rattle.power_sum32.proofs.power_sum.PowerSumQuackU32.sub.Reads as sub
+use Rattle.power_sum32.proofs.power_sum.PowerSumQuackU32.signed_count.Reads as signed-count
+use Rattle.power_sum32.proofs.power_sum.PowerSumQuackU32.negate.Reads as negate
 use Rattle.power_sum32.proofs.power_sum.PowerSumQuackU32.to_coeffs.Reads as to-coeffs
 use Rattle.power_sum32.proofs.power_sum.PowerSumQuackU32.decode_with_log.Reads as decode-with-log
+use Rattle.power_sum32.proofs.power_sum.PowerSumQuackU32.decode_surplus_with_log.Reads as decode-surplus-with-log
 use Rattle.power_sum32.proofs.power_sum.PowerSumQuackU32.serialize.Reads as serialize
 use Rattle.power_sum32.proofs.power_sum.PowerSumQuackU32.serialize_with_hint.Reads as serialize-with-hint
 use Rattle.power_sum32.proofs.power_sum.PowerSumQuackU32.deserialize.Reads as deserialize
@@ -158,6 +163,23 @@ pub sub-wrong : RefusesBoth (holds (sub.Post tt) (both, (built (fresh 2), tt))) 
 unfolding fresh each every wellFormed sketch.insert sketch.subtract subOf calls.sub
 sub-wrong = both-differ threshold-of _ _ refl refl
 
+-- Two below nothing are taken as they are counted, or as one below nothing.
+pub signed-count-wrong : RefusesBoth (holds (signed-count.Post tt) (gone, tt)) (pos (counts - 2)) (negsuc 0)
+unfolding fresh sketch.remove signedCount
+signed-count-wrong = both-differ belowZero _ _ refl refl
+
+-- The negated sketch with its last code kept.
+abbrev remembered : PowerSumQuackU32
+remembered =
+    let g = sketch.negate kind32 (sketch.insert kind32 (fresh 3) 10) in
+    built (record { threshold = 3; sums = g .sums; count = g .count; last = sketch.code 10 })
+
+-- The sketch stays as it was, or its last code stays.
+pub negate-wrong : RefusesBoth (holds (negate.Post tt) (built (sketch.insert kind32 (fresh 3) 10), tt)) (answered 0 (built (sketch.insert kind32 (fresh 3) 10)))
+    (answered 0 remembered)
+unfolding fresh each every wellFormed sketch.insert sketch.negate negateOf calls.negate
+negate-wrong = both-differ last-of _ _ refl refl
+
 -- ---- lists
 
 -- One coefficient is counted, or they stand the other way round.
@@ -173,6 +195,14 @@ pub decode-with-log-wrong : (κs : Lfts 2) (log₁ : RefT (List ℕ))
 unfolding fresh each every wellFormed sketch.insert decodeOf calls.decode decoding.decode decoding.coefficients decoding.evaluate decoding.newestFirst
     powerMod powerWithin
 decode-with-log-wrong κs log₁ = either-differs many first _ _ refl refl
+
+-- Both codes are counted, or the other one is listed.
+pub decode-surplus-with-log-wrong : (κs : Lfts 2) (got₁ : RefT (List ℕ))
+    → RefusesEither (λ r out₁. decode-surplus-with-log.Post κs (gone, (lent (1 ∷ 10 ∷ []), (lent (0 ∷ 0 ∷ []), tt))) r (gone, (got₁, (out₁, tt)))) (counted 2)
+    (1 ∷ 0 ∷ [])
+unfolding fresh each every wellFormed sketch.remove sketch.negate signedCount decodeSurplusOf calls.decodeSurplus decoding.surplus decoding.decode
+    decoding.coefficients decoding.evaluate decoding.newestFirst powerMod powerWithin
+decode-surplus-with-log-wrong κs got₁ = either-differs many first _ _ refl refl
 
 -- ---- packets
 

@@ -3,10 +3,12 @@
 use Prim.Native.Nat.{ℕ}
 use mathlib.Core.Bool.{Bool, _&&_}
 use mathlib.Core.List.{List, map}
+use lib.IntN.{ℤ}
 use lib.ListN.{take}
 use Rattle.modint32.specs.declared.Code.{Code}
 use Rattle.modint32.specs.Answers.{val, wrap}
 use Rattle.rules.specs.Kind.{kind32}
+use Rattle.rules.specs.Signed.{signedCount}
 use Rattle.rules.specs.Sketch as rules
 use Rattle.rules.specs.Sketch.{Sketch, nothing, code, noSketch, wellFormed, placed}
 use Rattle.rules.specs.Calls as calls
@@ -77,6 +79,14 @@ subAssignOf s o = sketchAnswer s (calls.subAssign kind32 (wellFormedOf s && well
 unfoldable pub subOf : PowerSumQuackU32 → PowerSumQuackU32 → Answer
 subOf s o = sketchAnswer s (calls.sub kind32 (wellFormedOf s && wellFormedOf o) (view s) (view o))
 
+-- The count read as a signed difference, of a struct that need not be well formed.
+abbrev pub signedCountOf : PowerSumQuackU32 → ℤ
+signedCountOf s = signedCount (s .count)
+
+-- Negate: the negated sketch, or the refusal and the sketch as given.
+unfoldable pub negateOf : PowerSumQuackU32 → Answer
+negateOf s = sketchAnswer s (calls.negate kind32 (wellFormedOf s) (view s))
+
 -- For a lent buffer of so many places.
 unfoldable pub coefficientsOf : PowerSumQuackU32 → ℕ → Outcome (List ℕ)
 coefficientsOf s places = calls.coefficients kind32 (wellFormedOf s) (view s) places
@@ -84,6 +94,10 @@ coefficientsOf s places = calls.coefficients kind32 (wellFormedOf s) (view s) pl
 -- What a sketch lists of a log, for a lent buffer of so many places.
 unfoldable pub decodeOf : PowerSumQuackU32 → List ℕ → ℕ → Outcome (List ℕ)
 decodeOf s log places = calls.decode kind32 (wellFormedOf s) (view s) log places
+
+-- What a sketch lists of got codes as surplus, for a lent buffer of so many places.
+unfoldable pub decodeSurplusOf : PowerSumQuackU32 → List ℕ → ℕ → Outcome (List ℕ)
+decodeSurplusOf s got places = calls.decodeSurplus kind32 (wellFormedOf s) (view s) got places
 
 -- For a lent buffer of so many bytes.
 unfoldable pub writeOf : PowerSumQuackU32 → ℕ → Outcome (List ℕ)

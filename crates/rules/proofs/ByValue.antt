@@ -9,7 +9,7 @@ use Rattle.rules.specs.Sketch.{Sketch, nothing, WellFormed}
 use Rattle.rules.specs.Decode.{coefficients}
 use Rattle.rules.specs.Calls as calls
 use Rattle.rules.specs.Words.{wordsOf, insertIn, removeIn, subAssignIn, subIn, coefficientsIn, decodeIn, writeIn}
-use Rattle.rules.specs.Words.{writeWithHintIn}
+use Rattle.rules.specs.Words.{writeWithHintIn, negateIn, decodeSurplusIn}
 use Rattle.rules.specs.Words.{inWords, intoWords}
 use Rattle.rules.proofs.Words.{words-fit, sketch-back}
 
@@ -34,6 +34,16 @@ module _ (K : Kind) (s : Sketch) (w : WellFormed K s) (rest : List ℕ) where
   pub decode-by-value : (log : List ℕ) (places : ℕ) → decodeIn K (wordsOf K s ++ rest) log places ≡ calls.decode K true s log places
   unfolding decodeIn
   decode-by-value log places = rw (words-fit K s w rest, sketch-back K s w rest)
+
+  -- Negation.
+  pub negate-by-value : (places : ℕ) → negateIn K (wordsOf K s ++ rest) places ≡ intoWords K places (calls.negate K true s)
+  unfolding negateIn
+  negate-by-value places = rw (words-fit K s w rest, sketch-back K s w rest)
+
+  -- Decoding the surplus.
+  pub surplus-by-value : (got : List ℕ) (places : ℕ) → decodeSurplusIn K (wordsOf K s ++ rest) got places ≡ calls.decodeSurplus K true s got places
+  unfolding decodeSurplusIn
+  surplus-by-value got places = rw (words-fit K s w rest, sketch-back K s w rest)
 
   -- Writing.
   pub write-by-value : (room : ℕ) → writeIn K (wordsOf K s ++ rest) room ≡ calls.write K true s room

@@ -8,6 +8,7 @@ pub mod Mapping
 pub mod Changing
 pub mod WellFormed
 pub mod LastCode
+pub mod Negation
 pub mod Recurrence
 pub mod Evaluate
 pub mod OneReduction
@@ -21,8 +22,10 @@ pub mod Bytes
 pub mod Words
 pub mod Exported
 pub mod ExportedPackets
+pub mod ExportedSurplus
 pub mod ByValue
 pub mod Promise
+pub mod Surplus
 pub mod Run
 pub mod Determined
 pub mod Cases

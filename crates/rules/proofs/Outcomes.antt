@@ -8,18 +8,19 @@ use native.Mathlib.Omega.{arith}
 use lib.Dec.{leb, ltb, eqb}
 use lib.ListN.{length, take}
 use lib.Seq.{take-all}
-use borrow.Author.Tests.{lt-ltb, le-ltb, le-leb, lt-leb, leb-true, eq-eqb, ne-eqb}
+use borrow.Author.Tests.{lt-ltb, le-ltb, ltb-true, ltb-false, le-leb, lt-leb, leb-true, eq-eqb, ne-eqb}
 use Rattle.numbers.specs.Table.{every}
-use Rattle.rules.specs.Kind.{Kind}
+use Rattle.rules.specs.Kind.{Kind, counts, halfCounts}
 use Rattle.rules.specs.Sketch as sketch
-use Rattle.rules.specs.Sketch.{Sketch, Last, nothing, code, inRange}
+use Rattle.rules.specs.Sketch.{Sketch, Last, nothing, code, inRange, surplusIn}
 use Rattle.rules.specs.Decode as decoding
 use Rattle.rules.specs.Sums.{roots}
 use Rattle.rules.specs.Packet.{packet, sumsAt, sumsIn, sumsOf, sketchIn}
 use Rattle.rules.specs.Calls.{Outcome, refused, given, unless, refusalOf, fitting, packed, make, insert, remove, subAssign, sub}
-use Rattle.rules.specs.Calls.{coefficients, evaluate, evaluateOnce, decode, writeWithHint, write, read}
+use Rattle.rules.specs.Calls.{negate, coefficients, evaluate, evaluateOnce, decode, decodeSurplus, writeWithHint, write, read}
 use Rattle.rules.proofs.Recurrence.{coefficients-length}
 use Rattle.rules.proofs.Listing.{no-roots}
+use Rattle.rules.proofs.Negation.{none-surplus, surplus-is-negated}
 
 -- ---- evaluation
 
@@ -117,6 +118,52 @@ module _ (K : Kind) (s : Sketch) where
           let l = leb-true (s .count) (s .threshold) e in
           rw (le-leb (s .count) (K .greatest) (omega (arith, few refl)), decode-roots log)
 
+-- ---- surplus
+
+module _ (K : Kind) (s : Sketch) (got : List ℕ) (places : ℕ) where
+  -- A sketch that is not well formed.
+  pub surplus-malformed : {ok : Bool} → ok ≡ false → decodeSurplus K ok s got places ≡ refused 12
+  unfolding decodeSurplus
+  surplus-malformed e = rw e
+
+  module _ {ok : Bool} (well : ok ≡ true) where
+    -- A surplus above the threshold.
+    pub surplus-over : s .threshold < surplusIn s → decodeSurplus K ok s got places ≡ refused 4
+    unfolding decodeSurplus
+    surplus-over l = rw (well, lt-leb (surplusIn s) (s .threshold) l)
+
+    module _ (within : surplusIn s ≤ s .threshold) where
+      -- Fewer places than got codes.
+      pub surplus-short : places < length got → decodeSurplus K ok s got places ≡ refused 5
+      unfolding decodeSurplus
+      surplus-short l = rw (well, le-leb (surplusIn s) (s .threshold) within, lt-leb (length got) places l)
+
+      module _ (room : length got ≤ places) where
+        -- No surplus: nothing is listed.
+        pub surplus-none : surplusIn s ≡ 0 → decodeSurplus K ok s got places ≡ given []
+        unfolding decodeSurplus decoding.surplus
+        surplus-none e = rw (well, le-leb (surplusIn s) (s .threshold) within, le-leb (length got) places room, eq-eqb (surplusIn s) 0 e)
+
+        -- Otherwise what decoding the got codes by the negated sketch comes to.
+        pub surplus-negated : (surplusIn s ≡ 0 → ⊥) → s .count < counts → decodeSurplus K ok s got places ≡ decode K true (sketch.negate K s) got places
+        unfolding decodeSurplus decoding.surplus decode sketch.negate
+        surplus-negated some u =
+            rw (
+              well,
+              le-leb (surplusIn s) (s .threshold) within,
+              ← size,
+              le-leb (surplusIn s) (sketch.negate K s .threshold) within,
+              le-leb (length got) places room,
+              ne-eqb (surplusIn s) 0 some,
+            )
+          where
+            size : surplusIn s ≡ sketch.negate K s .count
+            size = by-half (ltb (s .count) halfCounts) refl
+              where
+                by-half : (small : Bool) → ltb (s .count) halfCounts ≡ small → surplusIn s ≡ sketch.negate K s .count
+                by-half true t = absurd (some (none-surplus K s (ltb-true (s .count) halfCounts t)))
+                by-half false t = surplus-is-negated K s (ltb-false (s .count) halfCounts t) u
+
 -- ---- no refusal has the number 0
 
 -- An outcome whose refusal, if it is one, has a number.
@@ -161,6 +208,11 @@ module _ (K : Kind) where
     pub sub-numbered : (o : Sketch) → Numbered (sub K ok s o)
     unfolding sub
     sub-numbered o = unless-numbered ok 12 (given (sketch.subtract K s o)) refl tt
+
+    -- No refusal of negate has the number 0.
+    pub negate-numbered : Numbered (negate K ok s)
+    unfolding negate
+    negate-numbered = unless-numbered ok 12 (given (sketch.negate K s)) refl tt
 
     -- No refusal of coefficients has the number 0.
     pub coefficients-numbered : (places : ℕ) → Numbered (coefficients K ok s places)

@@ -29,7 +29,8 @@ well-formed = well-formed-history
 pub count-exact : (K : Kind) (h : History) (n : ℕ) → Leaves K h n → sketchOf K h .count ≡ n
 count-exact = count-is-left
 
-keep-none : (test : ℕ → Bool) → ((c : ℕ) → test c ≡ false) → (log : List ℕ) → keep test log ≡ []
+-- A test that no number passes keeps none.
+pub keep-none : (test : ℕ → Bool) → ((c : ℕ) → test c ≡ false) → (log : List ℕ) → keep test log ≡ []
 keep-none test fails [] = refl
 keep-none test fails (c ∷ log) = rw (fails c) (keep-none test fails log)
 

@@ -6,22 +6,26 @@ use mathlib.Core.Path.{_≡_, sym, _∙_, ap, subst}
 use mathlib.Core.Bool.{true, _&&_}
 use mathlib.Core.List.{List, _++_}
 use lib.Dec.{eqb}
+use lib.IntN.{pos, negℤ}
 use lib.ListN.{length, take, drop}
 use borrow.Author.Tests.{eqb-true}
 use Rattle.rules.specs.Kind.{Kind, countBytes}
 use Rattle.newton.specs.Members.{AllBelow}
 use Rattle.rules.specs.Field.{residue}
+use Rattle.rules.specs.Signed.{signedCount}
 use Rattle.rules.specs.Packet.{bytes, number, sumsAt, sumsIn, sketchIn}
 use Rattle.rules.specs.Sketch as sketch
 use Rattle.rules.specs.Sketch.{Sketch, WellFormed, inRange}
 use Rattle.rules.specs.Calls as calls
 use Rattle.rules.specs.Calls.{Outcome, given, refusalOf, lengthOf, written}
 use Rattle.rules.specs.History as history
-use Rattle.rules.specs.History.{History, sketchOf, Allowed, net, Leaves}
+use Rattle.rules.specs.History.{History, sketchOf, Allowed, net, Leaves, excess, Exceeds}
 use Rattle.rules.specs.Run.{Calls, Ran, made, inserted, removed, subtractedInPlace, subtracted, carried, carriedByHint, LeftIn, missing}
+use Rattle.rules.specs.Run.{ExceedsIn, surplusAmong}
 use Rattle.rules.proofs.WellFormed.{in-range-parts}
 use Rattle.rules.proofs.Packet.{passed, hint-unrefused, read-is-said, read-well-formed, given-again}
 use Rattle.rules.proofs.Promise as promise
+use Rattle.rules.proofs.Surplus as surplus
 
 module _ (K : Kind) (C : Calls) where
   -- A form stands for a sketch: it passes the test, and it is the sketch that is read off it.
@@ -49,6 +53,8 @@ module _ (K : Kind) (C : Calls) where
     pub reads : (bs : List ℕ) (s : C .Form) → C .reads bs s → Gives (calls.read K bs) s
     pub decodes : (s : C .Form) (log out : List ℕ) (r n : ℕ) (out₁ : List ℕ) → C .decodes s log out r n out₁
         → let o = calls.decode K (C .fits s) (C .view s) log (length out) in (r ≡ refusalOf o) × (n ≡ lengthOf o) × (out₁ ≡ written o out)
+    pub decodesSurplus : (s : C .Form) (got out : List ℕ) (r n : ℕ) (out₁ : List ℕ) → C .decodesSurplus s got out r n out₁
+        → let o = calls.decodeSurplus K (C .fits s) (C .view s) got (length out) in (r ≡ refusalOf o) × (n ≡ lengthOf o) × (out₁ ≡ written o out)
 
 module _ (K : Kind) (C : Calls) (sound : Sound K C) where
   given-same : {g g′ : Sketch} → given g ≡ given g′ → g ≡ g′
@@ -179,13 +185,53 @@ module _ (K : Kind) (C : Calls) (sound : Sound K C) where
           let f = follows ran in
           rw (f .stands .fits, f .stands .is) (promise.decode-exact K h n (leaves ran left) log (length out) room)
 
+  -- The first sums of a form are those of its history's sketch.
+  first-sums : (n : ℕ) {h : History} {s : C .Form} → Ran C h s → take n (C .view s .sums) ≡ take n (sketchOf K h .sums)
+  first-sums n run = ap (λ (g : Sketch). take n (g .sums)) (follows run .stands .is)
+
   -- Two sketches that leave equally many, with the same first sums, leave the same: their net numbers agree, residue by residue.
   pub same-net : {h g : History} {s o : C .Form} {n : ℕ} → Ran C h s → LeftIn K h (C .view s .threshold) n → Ran C g o → LeftIn K g (C .view o .threshold) n
       → take n (C .view s .sums) ≡ take n (C .view o .sums) → (r : ℕ) → net K h r ≡ net K g r
-  same-net {h} {g} {s} {o} {n} ran left other also e = promise.same-net K h g n (leaves ran left) (leaves other also) (sym (sums ran) ∙ e ∙ sums other)
+  same-net {h} {g} {s} {o} {n} ran left other also e =
+      promise.same-net K h g n (leaves ran left) (leaves other also) (sym (first-sums n ran) ∙ e ∙ first-sums n other)
+
+  -- ---- the promise with the roles changed
+
+  -- The premise for a form is that for its history.
+  exceeds : {h : History} {s : C .Form} {n : ℕ} → Ran C h s → ExceedsIn K h (C .view s .threshold) n → Exceeds K h n
+  exceeds {h} {s} {n} r l =
+      let f = follows r in
+      record {
+        allowed = f .allowed;
+        none-above = l .none-above;
+        in-all = l .in-all;
+        few = subst (λ (t : ℕ). n ≤ t) (ap (λ (g : Sketch). g .threshold) (f .stands .is)) (l .few);
+      }
+
+  -- The signed count is how many are surplus, below zero.
+  pub signed-exact : {h : History} {s : C .Form} {n : ℕ} → Ran C h s → ExceedsIn K h (C .view s .threshold) n
+      → signedCount (C .view s .count) ≡ negℤ (pos n)
+  signed-exact {h} {s} {n} r l = ap (λ (g : Sketch). signedCount (g .count)) (follows r .stands .is) ∙ surplus.signed-exact K h n (exceeds r l)
+
+  -- Decoding the surplus among any got codes, with room for them, is not refused, answers how many of them are surplus, and leaves exactly those at the
+  -- front of the lent buffer; the buffer's later places are as they were.
+  pub surplus-exact : {h : History} {s : C .Form} {n : ℕ} → Ran C h s → ExceedsIn K h (C .view s .threshold) n → (got out : List ℕ) (r m : ℕ) (out₁ : List ℕ)
+      → length got ≤ length out → C .decodesSurplus s got out r m out₁
+      → (r ≡ 0) × (m ≡ length (surplusAmong K h got)) × (out₁ ≡ surplusAmong K h got ++ drop (length (surplusAmong K h got)) out)
+  surplus-exact {h} {s} {n} ran over got out r m out₁ room p =
+      let d = sound .decodesSurplus s got out r m out₁ p in
+      (d .0 ∙ ap refusalOf lists, d .1 ∙ ap lengthOf lists, d .2 ∙ ap (λ (o : Outcome (List ℕ)). written o out) lists)
     where
-      sums : {k : History} {q : C .Form} → Ran C k q → take n (C .view q .sums) ≡ take n (sketchOf K k .sums)
-      sums run = ap (λ (g : Sketch). take n (g .sums)) (follows run .stands .is)
+      lists : calls.decodeSurplus K (C .fits s) (C .view s) got (length out) ≡ given (surplusAmong K h got)
+      lists =
+          let f = follows ran in
+          rw (f .stands .fits, f .stands .is) (surplus.surplus-exact K h n (exceeds ran over) got (length out) room)
+
+  -- Two sketches with equally many surplus, and the same first sums, have the same surplus: their net numbers agree, residue by residue.
+  pub same-excess : {h g : History} {s o : C .Form} {n : ℕ} → Ran C h s → ExceedsIn K h (C .view s .threshold) n → Ran C g o
+      → ExceedsIn K g (C .view o .threshold) n → take n (C .view s .sums) ≡ take n (C .view o .sums) → (r : ℕ) → excess K h r ≡ excess K g r
+  same-excess {h} {g} {s} {o} {n} ran over other also e =
+      surplus.same-excess K h g n (exceeds ran over) (exceeds other also) (sym (first-sums n ran) ∙ e ∙ first-sums n other)
 
   -- ---- a packet
 

@@ -9,7 +9,7 @@ use lib.ListN.{length, take, drop}
 use Rattle.numbers.specs.Table.{every}
 use Rattle.rules.specs.Kind.{Kind}
 use Rattle.rules.specs.Sketch as sketch
-use Rattle.rules.specs.Sketch.{Sketch, Last, nothing, code, noSketch, inRange}
+use Rattle.rules.specs.Sketch.{Sketch, Last, nothing, code, noSketch, inRange, surplusIn}
 use Rattle.rules.specs.Decode as decoding
 use Rattle.rules.specs.Packet.{packet, sumsAt, sumsIn, sumsOf, sketchIn}
 
@@ -69,6 +69,10 @@ subAssign K ok s o = unless ok 12 (unless (eqb (s .threshold) (o .threshold)) 2 
 unfoldable pub sub : Kind → Bool → Sketch → Sketch → Outcome Sketch
 sub K ok s o = unless ok 12 (given (sketch.subtract K s o))
 
+-- Negate: 12.
+unfoldable pub negate : Kind → Bool → Sketch → Outcome Sketch
+negate K ok s = unless ok 12 (given (sketch.negate K s))
+
 -- ---- lists
 
 -- Coefficients, for a lent buffer of so many places: 12, then 4 where the count is above the threshold, then 5 where the places are fewer than the count.
@@ -88,6 +92,12 @@ evaluateOnce K cs c = unless (ltb 0 (length cs)) 11 (unless (leb (length cs) (K 
 -- Decode, for a lent buffer of so many places: 12, then 4, then 5 where the places are fewer than the log's entries, with the count 0 too.
 unfoldable pub decode : Kind → Bool → Sketch → List ℕ → ℕ → Outcome (List ℕ)
 decode K ok s log places = unless ok 12 (unless (leb (s .count) (s .threshold)) 4 (unless (leb (length log) places) 5 (given (decoding.decode K s log))))
+
+-- Decode the surplus among got codes, for a lent buffer of so many places: 12, then 4 where the signed count is negative and its size is above the threshold,
+-- then 5 where the places are fewer than the codes, with a count of 0 or more too.
+unfoldable pub decodeSurplus : Kind → Bool → Sketch → List ℕ → ℕ → Outcome (List ℕ)
+decodeSurplus K ok s got places =
+    unless ok 12 (unless (leb (surplusIn s) (s .threshold)) 4 (unless (leb (length got) places) 5 (given (decoding.surplus K s got))))
 
 -- ---- packets
 

@@ -1,17 +1,19 @@
 -- The cases from the bench, as one table: what is computed from the rules, beside what the requirements say.
 -- Assumes nothing.
-use Prim.Native.Nat.{ℕ, zero, suc}
+use Prim.Native.Nat.{ℕ, zero, suc, _-_}
 use mathlib.Core.Bool.{Bool, true, false, cond, _&&_}
 use mathlib.Core.List.{List, [], _∷_, _++_, map}
 use lib.Dec.{eqb}
+use lib.IntN.{ℤ, pos, negsuc}
 use lib.ListN.{length, replicate}
 use Rattle.numbers.specs.Power.{powerWithin, powerMod}
 use Rattle.rules.specs.Kind.{Kind, kind16, kind32}
 use Rattle.rules.specs.Field.{residue, plus, minus, times, power, multiplicationsWithin, multiplications, inverse}
-use Rattle.rules.specs.Sketch.{Sketch, Last, nothing, code, fresh, insert, remove, wellFormed}
+use Rattle.rules.specs.Signed.{signedCount}
+use Rattle.rules.specs.Sketch.{Sketch, Last, nothing, code, fresh, insert, remove, negate, wellFormed}
 use Rattle.rules.specs.Calls as calls
 use Rattle.rules.specs.Calls.{Outcome, refused, given, refusalOf, lengthOf, written, sketchOr}
-use Rattle.rules.specs.Words.{saidBy, wordsOf}
+use Rattle.rules.specs.Words.{saidBy, wordsOf, signedCountIn}
 
 -- A case: the numbers that the rules give, and the numbers that the requirements give.
 pub record Case : Type 0 where
@@ -254,10 +256,69 @@ wordCases =
     ∷ gives (saidBy kind16 (2 ∷ 2 ∷ 3 ∷ 1 ∷ 7 ∷ 5 ∷ 6 ∷ 9 ∷ []) .count ∷ saidBy kind16 (2 ∷ 2 ∷ 3 ∷ 1 ∷ 7 ∷ 5 ∷ 6 ∷ 9 ∷ []) .sums) (196610 ∷ 5 ∷ 6 ∷ [])
     ∷ []
 
+-- ---- surplus
+
+-- A signed number as a list: 1 for a negative one, 0 for any other, and its size.
+abbrev signedList : ℤ → List ℕ
+signedList (pos n) = 0 ∷ n ∷ []
+signedList (negsuc n) = 1 ∷ suc n ∷ []
+
+-- The codes of a list removed one after the other.
+unfoldable pub removes : Kind → Sketch → List ℕ → Sketch
+removes K s [] = s
+removes K s (c ∷ cs) = removes K (remove K s c) cs
+
+-- A sketch of one sum, 0, with a count.
+abbrev counting : ℕ → Sketch
+counting n = record { threshold = 1; sums = 0 ∷ []; count = n; last = nothing }
+
+-- Counts as signed numbers, and the least and the greatest size of each that the threshold 1 allows.
+unfoldable pub signedCases : List Case
+signedCases =
+    gives (signedList (signedCount 0)) (0 ∷ 0 ∷ [])
+    ∷ gives (signedList (signedCount 2147483647)) (0 ∷ 2147483647 ∷ [])
+    ∷ gives (signedList (signedCount 2147483648)) (1 ∷ 2147483648 ∷ [])
+    ∷ gives (signedList (signedCount 4294967295)) (1 ∷ 1 ∷ [])
+    ∷ gives (map (λ (n : ℕ). refusalOf (calls.decodeSurplus kind32 true (counting n) [] 0)) (2147483647 ∷ 2147483648 ∷ 4294967294 ∷ 4294967295 ∷ []))
+    (0 ∷ 4 ∷ 4 ∷ 0 ∷ [])
+    ∷ gives (map (λ (n : ℕ). refusalOf (calls.decode kind32 true (counting n) [] 0)) (1 ∷ 2 ∷ 2147483647 ∷ 2147483648 ∷ 4294967295 ∷ []))
+    (0 ∷ 4 ∷ 4 ∷ 4 ∷ 4 ∷ [])
+    ∷ gives (signedList (signedCountIn kind32 (1 ∷ 4294967295 ∷ 0 ∷ 0 ∷ [])) ++ signedList (signedCountIn kind32 (1 ∷ 4294967295 ∷ 0 ∷ [])))
+    (1 ∷ 1 ∷ 0 ∷ 0 ∷ [])
+    ∷ gives (signedList (signedCountIn kind16 (1 ∷ 65535 ∷ 65535 ∷ 0 ∷ 0 ∷ [])) ++ signedList (signedCountIn kind16 (1 ∷ 0 ∷ 32768 ∷ 0 ∷ 0 ∷ [])))
+    (1 ∷ 1 ∷ 1 ∷ 2147483648 ∷ [])
+    ∷ gives (signedList (signedCountIn kind16 (1 ∷ 65535 ∷ 65535 ∷ 0 ∷ []))) (0 ∷ 0 ∷ [])
+    ∷ []
+
+-- What a kind lists as surplus: removals from a fresh sketch, with repeats; nothing for a count of 0 with sums; its refusals in their order; as many as the
+-- greatest threshold, and one more; and what negation makes of a sketch.
+unfoldable pub surplusCases : Kind → List Case
+unfolding removes downFrom
+surplusCases K =
+    let both = removes K (fresh 3) (10 ∷ 12 ∷ []) in
+    let apart = remove K (insert K (fresh 2) 1) 2 in
+    let room : List ℕ = 91 ∷ 92 ∷ 93 ∷ 94 ∷ [] in
+    gives (listing (calls.decodeSurplus K true both (1 ∷ 10 ∷ 12 ∷ 10 ∷ []) 4)) (0 ∷ 10 ∷ 12 ∷ 10 ∷ [])
+    ∷ gives (leaving (calls.decodeSurplus K true both (1 ∷ 12 ∷ []) 4) room) (1 ∷ 12 ∷ 92 ∷ 93 ∷ 94 ∷ [])
+    ∷ gives (leaving (calls.decodeSurplus K true both (1 ∷ 12 ∷ []) 1) room) (0 ∷ room)
+    ∷ gives (listing (calls.decodeSurplus K true apart (1 ∷ 2 ∷ 3 ∷ []) 3)) (0 ∷ [])
+    ∷ gives (listing (calls.decodeSurplus K true apart (1 ∷ 2 ∷ 3 ∷ []) 2)) (5 ∷ [])
+    ∷ gives (listing (calls.decodeSurplus K true (inserts K (fresh 3) (10 ∷ 12 ∷ [])) (10 ∷ 12 ∷ []) 2)) (0 ∷ [])
+    ∷ gives (listing (calls.decodeSurplus K false (counting 2147483648) (1 ∷ []) 0)) (12 ∷ [])
+    ∷ gives (listing (calls.decodeSurplus K true (counting 2147483648) (1 ∷ []) 0)) (4 ∷ [])
+    ∷ gives (listing (calls.decodeSurplus K true (removes K (fresh 32) (downFrom 32)) (33 ∷ downFrom 32) 33)) (0 ∷ downFrom 32)
+    ∷ gives (listing (calls.decodeSurplus K true (removes K (fresh 32) (downFrom 33)) [] 0)) (4 ∷ [])
+    ∷ gives (negate K (insert K (fresh 2) 3) .sums) ((K .modulus - 3) ∷ (K .modulus - 9) ∷ [])
+    ∷ gives (negate K (insert K (fresh 2) 3) .count ∷ lastList (negate K (insert K (fresh 2) 3) .last)) (4294967295 ∷ [])
+    ∷ gives (handing (calls.negate K true (fresh 2))) (0 ∷ 2 ∷ 0 ∷ 2 ∷ [])
+    ∷ gives (handing (calls.negate K false (fresh 2))) (12 ∷ 0 ∷ 0 ∷ 0 ∷ [])
+    ∷ []
+
 -- The whole table.
 unfoldable pub cases : List Case
 unfolding fieldCases decodeCases removeCases packetCases limitCases refusalCases handedCases narrowFieldCases narrowSketchCases narrowPacketCases onceCases
-    wordCases
+    wordCases signedCases surplusCases
 cases =
     fieldCases ++ (decodeCases ++ (removeCases ++ (packetCases ++ (limitCases ++ (refusalCases ++ (handedCases
-    ++ (narrowFieldCases ++ (narrowSketchCases ++ (narrowPacketCases ++ (onceCases ++ wordCases))))))))))
+    ++ (narrowFieldCases ++ (narrowSketchCases ++ (narrowPacketCases ++ (onceCases ++ (wordCases ++ (signedCases
+    ++ (surplusCases kind32 ++ surplusCases kind16)))))))))))))

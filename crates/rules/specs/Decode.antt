@@ -8,7 +8,7 @@ use lib.ListN.{length, getD}
 use Rattle.newton.specs.Polynomial.{lowerTerms}
 use Rattle.rules.specs.Kind.{Kind}
 use Rattle.rules.specs.Field.{residue, minus, negative, times, inverse}
-use Rattle.rules.specs.Sketch.{Sketch}
+use Rattle.rules.specs.Sketch.{Sketch, negate, surplusIn}
 
 -- The sums from the first on, times the coefficients from the newest on: s1 · a(i-1) + s2 · a(i-2) + .. + s(i-1) · a1.
 abbrev pub products : List ℕ → List ℕ → ℕ
@@ -40,3 +40,7 @@ keep test (c ∷ log) = cond (test c) (c ∷ keep test log) (keep test log)
 -- as many as the count says, is 0.
 unfoldable pub decode : Kind → Sketch → List ℕ → List ℕ
 decode K s log = cond (eqb (s .count) 0) [] (keep (λ c. eqb (evaluate K (coefficients K (s .sums) (s .count)) c) 0) log)
+
+-- What a sketch lists of got codes as surplus: nothing where its signed count is 0 or more; otherwise what the negated sketch lists of them.
+unfoldable pub surplus : Kind → Sketch → List ℕ → List ℕ
+surplus K s got = cond (eqb (surplusIn s) 0) [] (decode K (negate K s) got)

@@ -75,3 +75,15 @@ pub record Leaves (K : Kind) (h : History) (n : ℕ) : Type 0 where
   pub none-below : (r : ℕ) → count r (takenOut K h) ≤ count r (putIn K h)
   pub in-all : length (putIn K h) ≡ n + length (takenOut K h)
   pub enough : n ≤ sketchOf K h .threshold
+
+-- How often a residue was taken out beyond what was put in: the size of a net number below zero.
+abbrev pub excess : Kind → History → ℕ → ℕ
+excess K h r = count r (takenOut K h) - count r (putIn K h)
+
+-- The premise with the roles changed: none of the calls is refused, each residue ends with a net number of at most zero, they are n below zero in all,
+-- and n is at most the sums kept.
+pub record Exceeds (K : Kind) (h : History) (n : ℕ) : Type 0 where
+  pub allowed : Allowed K h
+  pub none-above : (r : ℕ) → count r (putIn K h) ≤ count r (takenOut K h)
+  pub in-all : length (takenOut K h) ≡ n + length (putIn K h)
+  pub few : n ≤ sketchOf K h .threshold

@@ -15,9 +15,13 @@ countBytes = 4
 abbrev pub counts : ℕ
 counts = 4294967296
 
+-- Half of them, 2^31: from here on a count is read as a negative number where it is read as a signed one.
+abbrev pub halfCounts : ℕ
+halfCounts = 2147483648
+
 -- A kind has a prime modulus, a greatest threshold, and a number of bytes for a code, which are also those of a residue and of a word in memory; a count
--- takes one such word, or two. The greatest threshold is below the modulus and below the counts; a residue fits its bytes, and a code is below twice
--- the modulus.
+-- takes one such word, or two. The greatest threshold is below the modulus and below half the counts; a residue fits its bytes, and a code is below
+-- twice the modulus.
 pub record Kind : Type 0 where
   pub modulus : ℕ
   pub greatest : ℕ
@@ -26,7 +30,7 @@ pub record Kind : Type 0 where
   pub prime : IsPrime modulus
   pub odd : 2 < modulus
   pub above : greatest < modulus
-  pub counted : greatest < counts
+  pub counted : greatest < halfCounts
   pub some-byte : 0 < codeBytes
   pub fits : modulus ≤ 256 ^ codeBytes
   pub twice : 256 ^ codeBytes ≤ 2 * modulus

@@ -1,6 +1,7 @@
 -- What is promised: the rules of codes, residues, sketches and packets, over any kind. Definitions only.
 pub mod Kind
 pub mod Field
+pub mod Signed
 pub mod Sketch
 pub mod Decode
 pub mod Sums

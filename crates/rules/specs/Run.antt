@@ -13,10 +13,11 @@ use Rattle.rules.specs.Field.{residue}
 use Rattle.rules.specs.Sketch.{Sketch}
 use Rattle.rules.specs.Decode.{keep}
 use Rattle.rules.specs.History as history
-use Rattle.rules.specs.History.{History, putIn, takenOut, net}
+use Rattle.rules.specs.History.{History, putIn, takenOut, net, excess}
 
 -- A form of a sketch and its calls: what a form stands for, whether it passes the test, and what each call's contract allows without a refusal, from what
--- is given to what is handed back. `decodes` has the log, the lent buffer, the refusal, how many were listed, and the buffer after the call.
+-- is given to what is handed back. `decodes` and `decodesSurplus` have the log or the got codes, the lent buffer, the refusal, how many were listed, and the
+-- buffer after the call.
 pub record Calls : Type 1 where
   pub Form : Type 0
   pub Code : Type 0
@@ -32,6 +33,7 @@ pub record Calls : Type 1 where
   pub writesWithHint : Form → ℕ → List ℕ → Type 0
   pub reads : List ℕ → Form → Type 0
   pub decodes : Form → List ℕ → List ℕ → ℕ → ℕ → List ℕ → Type 0
+  pub decodesSurplus : Form → List ℕ → List ℕ → ℕ → ℕ → List ℕ → Type 0
 
 -- A sketch got by calls along a history, each answering without a refusal. A sketch that is written, without a hint or with one of at least 1, and
 -- whose written bytes alone are read again, carries its history on.
@@ -54,3 +56,13 @@ pub record LeftIn (K : Kind) (h : History) (kept n : ℕ) : Type 0 where
 -- The entries of a log whose residue has a net number above zero, as they stand, in the log's order, repeats kept.
 abbrev pub missing : Kind → History → List ℕ → List ℕ
 missing K h log = keep (λ c. ltb 0 (net K h (residue K c))) log
+
+-- The premise with the roles changed: each residue ends with a net number of at most zero, they are n below zero in all, and n is at most the sums kept.
+pub record ExceedsIn (K : Kind) (h : History) (kept n : ℕ) : Type 0 where
+  pub none-above : (r : ℕ) → count r (putIn K h) ≤ count r (takenOut K h)
+  pub in-all : length (takenOut K h) ≡ n + length (putIn K h)
+  pub few : n ≤ kept
+
+-- The got codes whose residue has a net number below zero, as they stand, in their order, repeats kept.
+abbrev pub surplusAmong : Kind → History → List ℕ → List ℕ
+surplusAmong K h got = keep (λ c. ltb 0 (excess K h (residue K c))) got

@@ -3,13 +3,14 @@
 use Prim.Native.Nat.{ℕ, suc, _+_, _-_, _%_, _^_, _<_, _≤_, min}
 use mathlib.Core.Path.{_≡_}
 use mathlib.Core.Bool.{Bool, true, cond, _&&_}
-use mathlib.Core.List.{List, [], _∷_, _++_}
+use mathlib.Core.List.{List, [], _∷_, _++_, map}
 use lib.Dec.{leb, ltb, eqb}
 use lib.ListN.{length, getD, take, replicate}
 use Rattle.numbers.specs.Table.{every}
 use Rattle.newton.specs.Members.{AllBelow}
 use Rattle.rules.specs.Kind.{Kind, counts}
-use Rattle.rules.specs.Field.{residue, plus, difference, minus}
+use Rattle.rules.specs.Field.{residue, plus, difference, minus, negative}
+use Rattle.rules.specs.Signed.{signedCount, belowZero}
 
 -- The last code of a sketch: none, or a residue.
 pub data Last : Type 0 where
@@ -111,6 +112,14 @@ subtract K s o = record {
   count = difference counts (s .count) (o .count);
   last = nothing;
 }
+
+-- Negation: each sum modulo the prime and the count modulo 2^32 become their negatives, and there is no last code.
+unfoldable pub negate : Kind → Sketch → Sketch
+negate K s = record { threshold = s .threshold; sums = map (negative K) (s .sums); count = difference counts 0 (s .count); last = nothing }
+
+-- How many are surplus: the size of the count where it is negative as a signed number, 0 where it is not.
+abbrev pub surplusIn : Sketch → ℕ
+surplusIn s = belowZero (signedCount (s .count))
 
 -- The sketch cut to its first m sums.
 unfoldable pub cut : Sketch → ℕ → Sketch

@@ -7,7 +7,9 @@ use mathlib.Core.Bool.{Bool, cond, _&&_}
 use mathlib.Core.List.{List, [], _∷_, _++_}
 use lib.Dec.{leb, ltb, eqb}
 use lib.ListN.{length, getD, take, drop}
+use lib.IntN.{ℤ, pos}
 use Rattle.rules.specs.Kind.{Kind, counts}
+use Rattle.rules.specs.Signed.{signedCount}
 use Rattle.rules.specs.Sketch.{Sketch, Last, nothing, code, hasCode, codeOr0, wellFormed}
 use Rattle.rules.specs.Calls as calls
 use Rattle.rules.specs.Calls.{Outcome, refused, given, fitting}
@@ -107,6 +109,14 @@ module _ (K : Kind) where
   unfoldable pub subIn : List ℕ → List ℕ → ℕ → Outcome (List ℕ)
   subIn ws vs places = intoWords K places (calls.sub K (wordsFit K ws && wordsFit K vs) (saidBy K ws) (saidBy K vs))
 
+  -- The signed count that words say; 0 where they are fewer than stand before the sums.
+  abbrev pub signedCountIn : List ℕ → ℤ
+  signedCountIn ws = cond (leb (headWords K) (length ws)) (signedCount (countIn K ws)) (pos 0)
+
+  -- Negate, for a lent slice of so many words: 12, then 5.
+  unfoldable pub negateIn : List ℕ → ℕ → Outcome (List ℕ)
+  negateIn ws places = intoWords K places (calls.negate K (wordsFit K ws) (saidBy K ws))
+
   -- Coefficients, for a lent buffer of so many places: 12, then 4, then 5.
   unfoldable pub coefficientsIn : List ℕ → ℕ → Outcome (List ℕ)
   coefficientsIn ws places = calls.coefficients K (wordsFit K ws) (saidBy K ws) places
@@ -114,6 +124,10 @@ module _ (K : Kind) where
   -- Decode a log, for a lent buffer of so many places: 12, then 4, then 5.
   unfoldable pub decodeIn : List ℕ → List ℕ → ℕ → Outcome (List ℕ)
   decodeIn ws log places = calls.decode K (wordsFit K ws) (saidBy K ws) log places
+
+  -- Decode the surplus among got codes, for a lent buffer of so many places: 12, then 4, then 5.
+  unfoldable pub decodeSurplusIn : List ℕ → List ℕ → ℕ → Outcome (List ℕ)
+  decodeSurplusIn ws got places = calls.decodeSurplus K (wordsFit K ws) (saidBy K ws) got places
 
   -- Write, for a lent buffer of so many bytes: 12, then 3, then 5.
   unfoldable pub writeIn : List ℕ → ℕ → Outcome (List ℕ)
