@@ -2,7 +2,8 @@
  * eddybridge32.h: power-sum sketches of 32-bit codes, for C and C++.
  *
  * A sketch is a small summary of a collection of codes. Keep one of what was sent and one of what arrived, subtract the second from the
- * first, and decode: out of the log of what was sent come the entries that did not arrive.
+ * first, and decode: out of the log of what was sent come the entries that did not arrive. Where more arrived than was sent, decode the
+ * surplus: out of the log of what arrived come the entries that are too many.
  *
  * The functions are those of the crate exports32, whose contracts are proved. eddybridge16.h has the same calls for 16-bit codes, and a
  * program may use both.
@@ -43,6 +44,9 @@
  * Words that do not keep to this are no sketch, and neither are fewer than the 4 + T that word 0 says, nor fewer than 4: refusal 12. So every
  * sketch has one form in words, and two sketches are equal where their words are. They may be copied, kept and compared like any others.
  *
+ * After a subtraction the count is a difference, and eddy32_signed_count reads it as a signed number: below 2^31 the count is itself,
+ * otherwise the count minus 2^32. It is negative where up to 2^31 codes more were taken out than were put in.
+ *
  *
  * Slices
  *
@@ -72,6 +76,17 @@
  * Then it lists the entries of the log whose residue is left, in the log's order, and no others. An entry that stands several times in the
  * log is listed each time. Where more than T are left, and fewer than 2^32, it is refused by 4. Where a residue was taken out more often
  * than it was put in, no sketch can tell, and what is listed means nothing.
+ *
+ * eddy32_decode_surplus_with_log is exact with the roles changed, as long as
+ *
+ *     each residue was put in at most as often as it was taken out, and
+ *     at most T are surplus in all, repeats counted.
+ *
+ * Then it lists the entries of the got codes whose residue was taken out more often than it was put in, in their order, and no others, and
+ * the signed count is minus the number of residues that are surplus, repeats counted. An entry that stands several times among the got codes
+ * is listed each time. Where more than T are surplus, and at most 2^31, it is refused by 4.
+ *
+ * Where one residue was put in more often than it was taken out, and another less often, neither promise holds: what is listed means nothing.
  *
  *
  * An example (include/example.c is the whole program)
@@ -135,11 +150,11 @@ extern "C" {
 /* There is no last code. */
 #define EDDY32_NO_LAST_CODE 3
 
-/* The count is above the threshold. */
+/* The count is above the threshold; for a decoding of the surplus, the signed count is negative and its size is above the threshold. */
 #define EDDY32_COUNT_ABOVE_THRESHOLD 4
 
 /* A slice to write to is too short: it has fewer than 4 + T words for a sketch, fewer places than the count for coefficients or than the
-   log for a decoding, or fewer bytes than the packet. */
+   log or the got codes for a decoding, or fewer bytes than the packet. */
 #define EDDY32_BUFFER_TOO_SHORT 5
 
 /* Fewer than 8 bytes. */
@@ -199,6 +214,14 @@ uint32_t eddy32_sub_assign(uint32_t *s, size_t s_len, const uint32_t *rhs, size_
 /* Writes s minus rhs to the first words of out. The smaller threshold is kept and the further sums are dropped. Refusals: 12 for either, 5. */
 uint32_t eddy32_sub(const uint32_t *s, size_t s_len, const uint32_t *rhs, size_t rhs_len, uint32_t *out, size_t out_len);
 
+/* Writes the negative of s to the first words of out: the same threshold, each sum and the count negated, and no last code. Refusals: 12,
+   5. */
+uint32_t eddy32_negate(const uint32_t *s, size_t s_len, uint32_t *out, size_t out_len);
+
+/* The count that word 1 of s says, as a signed number from -2147483648 to 2147483647; 0 where s has fewer than 4 words. s need be no
+   well-formed sketch, and nothing is refused. */
+int32_t eddy32_signed_count(const uint32_t *s, size_t s_len);
+
 
 /* ---- coefficients, values and decoding ---- */
 
@@ -213,6 +236,11 @@ eddy32_value eddy32_eval(const uint32_t *coeffs, size_t coeffs_len, uint32_t x);
    repeats kept; nothing where the count is 0. Later places stay. out needs as many places as the log has entries, whatever is found. The
    value is how many were written. Refusals: 12, 4, 5. */
 eddy32_number eddy32_decode_with_log(const uint32_t *s, size_t s_len, const uint32_t *log, size_t log_len, uint32_t *out, size_t out_len);
+
+/* Where the signed count is negative, writes what eddy32_decode_with_log writes for the negated sketch with `got` as its log; nothing where
+   the signed count is 0 or more, which is never refused by 4. Later places stay. out needs as many places as `got` has entries, whatever is
+   found and whatever the count. The value is how many were written. Refusals: 12, 4, 5. */
+eddy32_number eddy32_decode_surplus_with_log(const uint32_t *s, size_t s_len, const uint32_t *got, size_t got_len, uint32_t *out, size_t out_len);
 
 
 /* ---- packets ---- */

@@ -1,5 +1,6 @@
 /*
- * The example of eddybridge32.h, whole: which of the codes in the log did not arrive, what a sketch is as bytes, and what a refusal looks like.
+ * The example of eddybridge32.h, whole: which of the codes in the log did not arrive, which arrived that is too many, what a sketch is as
+ * bytes, and what a refusal looks like.
  *
  *     bindings/archive
  *     cc -I include include/example.c target/lib/$(uname -m)/libeddybridge32.a -o example
@@ -30,6 +31,35 @@ static int missing_codes(void)
     for (size_t i = 0; i < found.value; i++)
         printf("missing=%u\n", (unsigned)missing[i]);
     return 0;
+}
+
+static int surplus_codes(void)
+{
+    enum { T = 3, WORDS = EDDY32_WORDS(T) };
+    uint32_t sent[WORDS], arrived[WORDS], got[4] = {10, 7, 1, 2}, surplus[4];
+
+    eddy32_new(T, sent, WORDS);
+    eddy32_new(T, arrived, WORDS);
+    eddy32_insert(sent, WORDS, 1);
+    eddy32_insert(sent, WORDS, 2);
+    eddy32_insert(sent, WORDS, 10);
+    for (size_t i = 0; i < 4; i++)
+        eddy32_insert(arrived, WORDS, got[i]);
+    eddy32_sub_assign(sent, WORDS, arrived, WORDS);
+    eddy32_number found = eddy32_decode_surplus_with_log(sent, WORDS, got, 4, surplus, 4);
+
+    if (found.refusal != EDDY32_OK)
+        return 1;
+    printf("signed count=%ld\n", (long)eddy32_signed_count(sent, WORDS));
+    for (size_t i = 0; i < found.value; i++)
+        printf("surplus=%u\n", (unsigned)surplus[i]);
+
+    /* What is surplus is what the negated sketch has in it. */
+    uint32_t negated[WORDS], again[4];
+    if (eddy32_negate(sent, WORDS, negated, WORDS) != EDDY32_OK)
+        return 1;
+    found = eddy32_decode_with_log(negated, WORDS, got, 4, again, 4);
+    return found.refusal != EDDY32_OK || found.value != 1 || again[0] != surplus[0];
 }
 
 static int packet(void)
@@ -70,5 +100,5 @@ static int refusal(void)
 
 int main(void)
 {
-    return missing_codes() || packet() || refusal();
+    return missing_codes() || surplus_codes() || packet() || refusal();
 }

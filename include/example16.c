@@ -1,6 +1,6 @@
 /*
- * The example of eddybridge16.h, whole: which of the codes in the log did not arrive, what a sketch is as bytes, what both forms of
- * evaluation answer, and what a refusal looks like.
+ * The example of eddybridge16.h, whole: which of the codes in the log did not arrive, which arrived that is too many, what a sketch is as
+ * bytes, what both forms of evaluation answer, and what a refusal looks like.
  *
  *     bindings/archive
  *     cc -I include include/example16.c target/lib/$(uname -m)/libeddybridge16.a -o example16
@@ -31,6 +31,35 @@ static int missing_codes(void)
     for (size_t i = 0; i < found.value; i++)
         printf("missing=%u\n", (unsigned)missing[i]);
     return 0;
+}
+
+static int surplus_codes(void)
+{
+    enum { T = 3, WORDS = EDDY16_WORDS(T) };
+    uint16_t sent[WORDS], arrived[WORDS], got[4] = {10, 7, 1, 2}, surplus[4];
+
+    eddy16_new(T, sent, WORDS);
+    eddy16_new(T, arrived, WORDS);
+    eddy16_insert(sent, WORDS, 1);
+    eddy16_insert(sent, WORDS, 2);
+    eddy16_insert(sent, WORDS, 10);
+    for (size_t i = 0; i < 4; i++)
+        eddy16_insert(arrived, WORDS, got[i]);
+    eddy16_sub_assign(sent, WORDS, arrived, WORDS);
+    eddy16_number found = eddy16_decode_surplus_with_log(sent, WORDS, got, 4, surplus, 4);
+
+    if (found.refusal != EDDY16_OK)
+        return 1;
+    printf("signed count=%ld\n", (long)eddy16_signed_count(sent, WORDS));
+    for (size_t i = 0; i < found.value; i++)
+        printf("surplus=%u\n", (unsigned)surplus[i]);
+
+    /* What is surplus is what the negated sketch has in it. */
+    uint16_t negated[WORDS], again[4];
+    if (eddy16_negate(sent, WORDS, negated, WORDS) != EDDY16_OK)
+        return 1;
+    found = eddy16_decode_with_log(negated, WORDS, got, 4, again, 4);
+    return found.refusal != EDDY16_OK || found.value != 1 || again[0] != surplus[0];
 }
 
 static int packet(void)
@@ -83,5 +112,5 @@ static int refusal(void)
 
 int main(void)
 {
-    return missing_codes() || packet() || evaluation() || refusal();
+    return missing_codes() || surplus_codes() || packet() || evaluation() || refusal();
 }

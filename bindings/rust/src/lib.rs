@@ -4,7 +4,8 @@
 //! A sketch of threshold T keeps T sums of powers modulo the prime of its width, [`Width::MODULUS`], a count, and the last
 //! value inserted. Two parties each insert the values that they see. One sends its sketch as a packet, of 8 + 4T bytes at
 //! 32 bits and of 6 + 2T bytes at 16 bits; the other subtracts it from its own, and decodes which entries of its log the
-//! first has not seen, as long as these are at most T and the first saw nothing that the other did not.
+//! first has not seen, as long as these are at most T and the first saw nothing that the other did not. Where the first
+//! saw more than the other, and nothing less, the surplus is decoded out of the log of what the first saw.
 //!
 //! The sketches are compiled from verified functions and linked as static libraries, which the crate `eddybridge-sys`
 //! declares. This crate gives them Rust types. It adds no rule of its own.

@@ -207,6 +207,30 @@ impl<W: Width> PowerSumQuack<W> {
         difference
     }
 
+    /// The negative of this sketch: the same threshold, each sum and the count negated, and no last value. What was put
+    /// in counts as taken out, and what was taken out as put in.
+    ///
+    /// # Examples
+    ///
+    /// ```
+    /// use eddybridge::PowerSumQuackU32;
+    ///
+    /// # fn main() -> Result<(), eddybridge::Refusal> {
+    /// let mut sketch = PowerSumQuackU32::new(2)?;
+    /// sketch.remove(5);
+    /// let negated = sketch.negated();
+    /// assert_eq!((negated.count(), negated.last_value()), (1, None));
+    /// assert_eq!(negated.decode_with_log(&[4, 5])?, [5]);
+    /// assert_eq!(negated.negated(), sketch);
+    /// # Ok(())
+    /// # }
+    /// ```
+    pub fn negated(&self) -> Self {
+        let mut negated = Self::blank();
+        Refusal::none(W::negate(&self.words, &mut negated.words));
+        negated
+    }
+
     /// The coefficients a1 to an, n being the count, of the polynomial whose roots are the values, x^n + a1·x^(n-1) +
     /// ... + an.
     ///
@@ -294,6 +318,84 @@ impl<W: Width> PowerSumQuack<W> {
     /// ```
     pub fn decode_into(&self, log: &[W], out: &mut [W]) -> Result<usize, Refusal> {
         let answer = W::decode_with_log(&self.words, log, out);
+        Refusal::unless(answer.refusal, answer.value)
+    }
+
+    /// The entries of `got` that are surplus, in their order: a vector of what
+    /// [`decode_surplus_into`](Self::decode_surplus_into) writes, which says when the list is exact.
+    ///
+    /// # Errors
+    ///
+    /// [`Refusal::CountAboveThreshold`] where the [`signed_count`](Self::signed_count) is negative and its size is above
+    /// the threshold.
+    ///
+    /// # Examples
+    ///
+    /// ```
+    /// use eddybridge::{PowerSumQuackU32, Refusal};
+    ///
+    /// # fn main() -> Result<(), Refusal> {
+    /// let got = [4, 9, 1, 9];
+    /// let mut sent = PowerSumQuackU32::new(2)?;
+    /// let mut received = PowerSumQuackU32::new(2)?;
+    /// for value in [1, 4, 9] {
+    ///     sent.insert(value);
+    /// }
+    /// for value in got {
+    ///     received.insert(value);
+    /// }
+    /// let mut surplus = sent.sub(&received);
+    /// assert_eq!(surplus.signed_count(), -1);
+    /// assert_eq!(surplus.decode_surplus_with_log(&got)?, [9, 9]);
+    /// assert_eq!(surplus.decode_with_log(&[1, 4, 9]), Err(Refusal::CountAboveThreshold));
+    ///
+    /// surplus.remove(7);
+    /// surplus.remove(8);
+    /// assert_eq!(surplus.decode_surplus_with_log(&got), Err(Refusal::CountAboveThreshold));
+    /// assert_eq!(sent.decode_surplus_with_log(&got)?, []);
+    /// # Ok(())
+    /// # }
+    /// ```
+    #[cfg(feature = "alloc")]
+    pub fn decode_surplus_with_log(&self, got: &[W]) -> Result<Vec<W>, Refusal> {
+        let mut found = vec![W::default(); got.len()];
+        let n = self.decode_surplus_into(got, &mut found)?;
+        found.truncate(n);
+        Ok(found)
+    }
+
+    /// Writes the entries of `got`, the values that were taken out, that are surplus, as they stand there, in their order,
+    /// to the front of `out`, and answers how many: those that [`decode_into`](Self::decode_into) lists for the
+    /// [`negated`](Self::negated) sketch where the [`signed_count`](Self::signed_count) is negative, and none where it is
+    /// 0 or more. Places beyond them stay. `out` needs as many places as `got` has entries, whatever is found.
+    ///
+    /// The list is exact as long as each residue was put in at most as often as it was taken out, and at most as many as
+    /// the threshold are surplus in all, repeats counted. Then it has the entries whose residue was taken out more often
+    /// than it was put in, and no others. An entry is listed as often as it stands in `got`. Where some residue was put in
+    /// more often than it was taken out, and another less often, what this call and [`decode_into`](Self::decode_into)
+    /// list means nothing.
+    ///
+    /// # Errors
+    ///
+    /// - [`Refusal::CountAboveThreshold`] where the signed count is negative and its size is above the threshold;
+    /// - [`Refusal::BufferTooShort`] where `out` is shorter than `got`.
+    ///
+    /// # Examples
+    ///
+    /// ```
+    /// use eddybridge::PowerSumQuackU32;
+    ///
+    /// # fn main() -> Result<(), eddybridge::Refusal> {
+    /// let mut sketch = PowerSumQuackU32::new(1)?;
+    /// sketch.remove(10);
+    /// let mut out = [0; 3];
+    /// let n = sketch.decode_surplus_into(&[10, 11, 10], &mut out)?;
+    /// assert_eq!(out[..n], [10, 10]);
+    /// # Ok(())
+    /// # }
+    /// ```
+    pub fn decode_surplus_into(&self, got: &[W], out: &mut [W]) -> Result<usize, Refusal> {
+        let answer = W::decode_surplus_with_log(&self.words, got, out);
         Refusal::unless(answer.refusal, answer.value)
     }
 
@@ -421,7 +523,24 @@ impl<W: Width> PowerSumQuack<W> {
         W::count(&self.words)
     }
 
-    /// The residue of the value that was inserted last, where it is known. Removing it and subtracting make it unknown.
+    /// The [`count`](Self::count) as a signed number: below 2147483648 it is itself, otherwise the count less 4294967296.
+    ///
+    /// # Examples
+    ///
+    /// ```
+    /// # fn main() -> Result<(), eddybridge::Refusal> {
+    /// let mut sketch = eddybridge::PowerSumQuackU32::new(1)?;
+    /// sketch.remove(1);
+    /// assert_eq!(sketch.signed_count(), -1);
+    /// # Ok(())
+    /// # }
+    /// ```
+    pub fn signed_count(&self) -> i32 {
+        W::signed_count(&self.words)
+    }
+
+    /// The residue of the value that was inserted last, where it is known. Removing it, subtracting and negating make it
+    /// unknown.
     ///
     /// # Examples
     ///

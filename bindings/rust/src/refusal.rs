@@ -28,10 +28,11 @@ pub enum Refusal {
     ThresholdsDiffer = sys::THRESHOLDS_DIFFER,
     /// 3: a sketch without a last value is to be written.
     NoLastValue = sys::NO_LAST_CODE,
-    /// 4: coefficients or a decoding are asked of a sketch whose count is above its threshold; or
+    /// 4: coefficients or a decoding are asked of a sketch whose count is above its threshold, or a decoding of the
+    /// surplus of one whose signed count is further below 0 than its threshold; or
     /// [`eval_precompute`](crate::eval_precompute) is given more than 32 coefficients.
     CountAboveThreshold = sys::COUNT_ABOVE_THRESHOLD,
-    /// 5: the buffer to write into is shorter than the packet, or than the log of a decoding.
+    /// 5: the buffer to write into is shorter than the packet, or than the log or the got values of a decoding.
     BufferTooShort = sys::BUFFER_TOO_SHORT,
     /// 6: the packet to read has fewer bytes than a count and a last value: 8 at 32 bits, 6 at 16 bits.
     PacketTooShort = sys::PACKET_TOO_SHORT,
@@ -41,7 +42,7 @@ pub enum Refusal {
     NotReduced = sys::NOT_REDUCED,
     /// 9: an input line of the desk program is not as prescribed. No call of this crate gives it.
     BadLine = 9,
-    /// 10: the log of the desk program has an 8,193rd line. No call of this crate gives it.
+    /// 10: the log of the desk program, or its bag, has an 8,193rd line. No call of this crate gives it.
     LogTooLong = 10,
     /// 11: a polynomial without coefficients is to be evaluated.
     NoCoefficient = sys::NO_COEFFICIENT,
@@ -119,13 +120,15 @@ impl Refusal {
             Self::ThresholdOutOfRange => "the threshold is 0 or above 32",
             Self::ThresholdsDiffer => "the thresholds differ",
             Self::NoLastValue => "the sketch has no last value",
-            Self::CountAboveThreshold => "the count is above the threshold, or there are more than 32 coefficients",
+            Self::CountAboveThreshold => {
+                "the count, or the size of a negative one, is above the threshold, or there are more than 32 coefficients"
+            }
             Self::BufferTooShort => "the buffer is too short",
             Self::PacketTooShort => "the packet is shorter than a count and a last value",
             Self::SumsOutOfRange => "the packet has no sum or more than 32",
             Self::NotReduced => "a sum or a coefficient is the modulus or more",
             Self::BadLine => "a line is not as prescribed",
-            Self::LogTooLong => "the log has more than 8,192 lines",
+            Self::LogTooLong => "the log or the bag has more than 8,192 lines",
             Self::NoCoefficient => "the polynomial has no coefficient",
             Self::NotWellFormed => "the sketch is not well formed",
         }

@@ -85,9 +85,12 @@ calls! {
     fn remove(s: &mut [Self], code: Self) -> u32;
     fn sub_assign(s: &mut [Self], rhs: &[Self]) -> u32;
     fn sub(s: &[Self], rhs: &[Self], out: &mut [Self]) -> u32;
+    fn negate(s: &[Self], out: &mut [Self]) -> u32;
+    fn signed_count(s: &[Self]) -> i32;
     fn to_coeffs(s: &[Self], coeffs: &mut [Self]) -> Number;
     fn eval(coeffs: &[Self], x: Self) -> Value<Self>;
     fn decode_with_log(s: &[Self], log: &[Self], out: &mut [Self]) -> Number;
+    fn decode_surplus_with_log(s: &[Self], got: &[Self], out: &mut [Self]) -> Number;
     fn serialize(s: &[Self], buf: &mut [u8]) -> Number;
     fn serialize_with_hint(s: &[Self], buf: &mut [u8], hint: usize) -> Number;
     fn deserialize(buf: &[u8], out: &mut [Self]) -> u32;

@@ -15,6 +15,9 @@ use Rattle.exports16.proofs.power_sum.eddy16_sub.Reads as sub
 use Rattle.exports16.proofs.evaluator.eddy16_eval.Reads as eval
 use Rattle.exports16.proofs.decoder.eddy16_to_coeffs.Reads as to-coeffs
 use Rattle.exports16.proofs.decoder.eddy16_decode_with_log.Reads as decode-with-log
+use Rattle.exports16.proofs.surplus.eddy16_signed_count.Reads as signed-count
+use Rattle.exports16.proofs.surplus.eddy16_negate.Reads as negate
+use Rattle.exports16.proofs.surplus.eddy16_decode_surplus_with_log.Reads as decode-surplus-with-log
 use Rattle.exports16.proofs.packet.eddy16_serialize.Reads as serialize
 use Rattle.exports16.proofs.packet.eddy16_serialize_with_hint.Reads as serialize-with-hint
 use Rattle.exports16.proofs.packet.eddy16_deserialize.Reads as deserialize
@@ -69,6 +72,10 @@ module _ (κs : Lfts 1) (s s′ : RefT (List ℕ)) where
   pub well-formed-determined : Determines (λ r. well-formed.Post κs (s, tt) r (s′, tt))
   well-formed-determined = by-equation _
 
+  -- The signed count of words has one answer.
+  pub signed-count-determined : Determines (λ r. signed-count.Post κs (s, tt) r (s′, tt))
+  signed-count-determined = by-equation _
+
   -- The value of coefficients at a code has one answer.
   pub eval-determined : (x : ℕ) → Determines (λ r. eval.Post κs (s, (x, tt)) r (s′, (x, tt)))
   eval-determined x = by-equation _
@@ -94,6 +101,10 @@ module _ (κs : Lfts 2) (s s′ out : RefT (List ℕ)) where
   pub sub-assign-determined : DeterminesBoth (λ r out₁. sub-assign.Post κs (out, (s, tt)) r (out₁, (s′, tt)))
   sub-assign-determined = by-equations _ _
 
+  -- Negation has one answer, and leaves one list of words.
+  pub negate-determined : DeterminesBoth (λ r out₁. negate.Post κs (s, (out, tt)) r (s′, (out₁, tt)))
+  negate-determined = by-equations _ _
+
   -- The coefficients of a sketch have one answer, and leave one list of numbers in the buffer.
   pub to-coeffs-determined : DeterminesBoth (λ r out₁. to-coeffs.Post κs (s, (out, tt)) r (s′, (out₁, tt)))
   to-coeffs-determined = by-equations _ _
@@ -118,3 +129,7 @@ module _ (κs : Lfts 3) (s s′ o o′ out : RefT (List ℕ)) where
   -- Decoding a log has one answer, and leaves one list of entries in the buffer.
   pub decode-with-log-determined : DeterminesBoth (λ r out₁. decode-with-log.Post κs (s, (o, (out, tt))) r (s′, (o′, (out₁, tt))))
   decode-with-log-determined = by-equations _ _
+
+  -- Decoding the surplus has one answer, and leaves one list of codes in the buffer.
+  pub decode-surplus-with-log-determined : DeterminesBoth (λ r out₁. decode-surplus-with-log.Post κs (s, (o, (out, tt))) r (s′, (o′, (out₁, tt))))
+  decode-surplus-with-log-determined = by-equations _ _

@@ -4,6 +4,7 @@
 use Prim.Native.Nat.{ℕ, _+_, _-_, _%_, _^_}
 use mathlib.Core.Path.{refl}
 use mathlib.Core.List.{List, [], _∷_, _++_}
+use lib.IntN.{pos, negsuc}
 use lib.ListN.{getD, replicate}
 use contract.Lifetimes.{Lfts}
 use denote.Ref.{RefT}
@@ -11,15 +12,16 @@ use Rattle.numbers.specs.Power.{powerMod, powerWithin}
 use Rattle.numbers.specs.Table.{every}
 use Rattle.modint16.specs.Answers.{val, wrap}
 use Rattle.modint16.specs.declared.Powered.{Powered}
-use Rattle.rules.specs.Kind.{kind16, bits}
+use Rattle.rules.specs.Kind.{kind16, counts, bits}
 use Rattle.rules.specs.Field.{residue, multiplications}
+use Rattle.rules.specs.Signed.{signedCount, belowZero}
 use Rattle.rules.specs.Sketch as sketch
 use Rattle.rules.specs.Sketch.{fresh, each, wellFormed}
 use Rattle.rules.specs.Packet.{bytes, number, allBytes, allNumbers, packet, packetLength, sketchIn}
 use Rattle.rules.specs.Decode as decoding
 use Rattle.rules.specs.Calls as calls
 use Rattle.rules.specs.Words.{saidBy, wordsFit, wordsOf, newIn, insertIn, removeIn, subAssignIn, subIn, coefficientsIn, decodeIn, writeIn, writeWithHintIn}
-use Rattle.rules.specs.Words.{headWords, hasAt, head, readIn}
+use Rattle.rules.specs.Words.{headWords, hasAt, head, readIn, negateIn, decodeSurplusIn}
 use Rattle.rules.specs.Determines.{holds, RefusesBoth, RefusesAll, MustAnswer}
 use Rattle.rules.proofs.Determined.{lent, both-differ, must-answer, all-differ}
 use Rattle.lent.specs.declared.Number.{Number}
@@ -34,6 +36,9 @@ use Rattle.exports16.proofs.power_sum.eddy16_sub.Reads as sub
 use Rattle.exports16.proofs.evaluator.eddy16_eval.Reads as eval
 use Rattle.exports16.proofs.decoder.eddy16_to_coeffs.Reads as to-coeffs
 use Rattle.exports16.proofs.decoder.eddy16_decode_with_log.Reads as decode-with-log
+use Rattle.exports16.proofs.surplus.eddy16_signed_count.Reads as signed-count
+use Rattle.exports16.proofs.surplus.eddy16_negate.Reads as negate
+use Rattle.exports16.proofs.surplus.eddy16_decode_surplus_with_log.Reads as decode-surplus-with-log
 use Rattle.exports16.proofs.packet.eddy16_serialize.Reads as serialize
 use Rattle.exports16.proofs.packet.eddy16_serialize_with_hint.Reads as serialize-with-hint
 use Rattle.exports16.proofs.packet.eddy16_deserialize.Reads as deserialize
@@ -59,9 +64,12 @@ refused r = r .refusal
 abbrev at : ℕ → List ℕ → ℕ
 at k l = getD l k 0
 
--- The words of a sketch of threshold 3 with 10 and 12 inserted, those of a fresh one, and so many words 9.
+-- The words of a sketch of threshold 3 with 10 and 12 inserted, those of one with both removed, those of a fresh one, and so many words 9.
 abbrev both : List ℕ
 both = head kind16 3 2 1 12 ++ 22 ∷ 244 ∷ 2728 ∷ []
+
+abbrev gone : List ℕ
+gone = head kind16 3 (counts - 2) 0 0 ++ (kind16 .modulus - 22) ∷ (kind16 .modulus - 244) ∷ (kind16 .modulus - 2728) ∷ []
 
 abbrev none : List ℕ
 none = head kind16 3 0 0 0 ++ 0 ∷ 0 ∷ 0 ∷ []
@@ -147,6 +155,19 @@ pub sub-wrong : (κs : Lfts 3) (s′ o′ : RefT (List ℕ))
 unfolding fresh each every wellFormed saidBy wordsFit wordsOf subIn calls.sub sketch.subtract
 sub-wrong κs s′ o′ = all-differ itself itself (at 0) _ _ refl refl refl
 
+-- Two below nothing are taken as they are counted, or as one below nothing.
+pub signed-count-wrong : (κs : Lfts 1) (s₁ : RefT (List ℕ))
+    → RefusesBoth (λ r. signed-count.Post κs (lent gone, tt) r (s₁, tt)) (pos (counts - 2)) (negsuc 0)
+unfolding signedCount
+signed-count-wrong κs s₁ = both-differ belowZero _ _ refl refl
+
+-- Negation is refused, or the last code is kept.
+pub negate-wrong : (κs : Lfts 2) (s′ : RefT (List ℕ))
+    → RefusesAll itself (λ r s₁. negate.Post κs (lent both, (lent (nines (headWords kind16 + 4)), tt)) r (s′, (s₁, tt))) 12
+    (head kind16 3 (counts - 2) 1 12 ++ (kind16 .modulus - 22) ∷ (kind16 .modulus - 244) ∷ (kind16 .modulus - 2728) ∷ 9 ∷ [])
+unfolding fresh each every wellFormed saidBy wordsFit wordsOf negateIn calls.negate sketch.negate
+negate-wrong κs s′ = all-differ itself itself (at (hasAt kind16)) _ _ refl refl refl
+
 -- ---- lists
 
 -- The code for the value at it, or a refusal.
@@ -174,6 +195,14 @@ pub decode-with-log-wrong : (κs : Lfts 3) (s′ o′ : RefT (List ℕ))
 unfolding fresh each every wellFormed saidBy wordsFit wordsOf decodeIn calls.decode decoding.decode decoding.evaluate decoding.coefficients
     decoding.newestFirst powerMod powerWithin
 decode-with-log-wrong κs s′ o′ = all-differ refused many (at 0) _ _ refl refl refl
+
+-- Both codes are counted, or the other one is listed.
+pub decode-surplus-with-log-wrong : (κs : Lfts 3) (s′ o′ : RefT (List ℕ))
+    → RefusesAll refused (λ r s₁. decode-surplus-with-log.Post κs (lent gone, (lent (1 ∷ 10 ∷ []), (lent (nines 2), tt))) r (s′, (o′, (s₁, tt)))) (counted 2)
+    (1 ∷ 9 ∷ [])
+unfolding fresh each every wellFormed saidBy wordsFit wordsOf signedCount sketch.negate decodeSurplusIn calls.decodeSurplus decoding.surplus decoding.decode
+    decoding.evaluate decoding.coefficients decoding.newestFirst powerMod powerWithin
+decode-surplus-with-log-wrong κs s′ o′ = all-differ refused many (at 0) _ _ refl refl refl
 
 -- ---- packets
 

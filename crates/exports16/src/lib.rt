@@ -6,4 +6,5 @@ pub mod modint;
 pub mod one_reduction;
 pub mod packet;
 pub mod power_sum;
+pub mod surplus;
 mod words;

@@ -1,4 +1,4 @@
-// The operations on sketches in slots: kinds 1 to 8 and 10 to 13.
+// The operations on sketches in slots: kinds 1 to 8, 10 to 13 and 23 to 25.
 use crate::agree;
 use crate::slots;
 use crate::slots::PLACES;
@@ -6,6 +6,7 @@ use crate::widths;
 use exports16::decoder;
 use exports16::packet;
 use exports16::power_sum;
+use exports16::surplus;
 use lent::Number;
 use modint16::Word;
 
@@ -36,6 +37,18 @@ fn well_formed(args: &[u32], expected: &[u32], held: &[Word; PLACES]) -> bool {
     agree::one(power_sum::eddy16_well_formed(&words[0..end]), expected)
 }
 
+// The answers are 1 for a negative count and 0 for any other, and its size.
+fn signed_count(args: &[u32], expected: &[u32], held: &[Word; PLACES]) -> bool {
+    if args.len() != 1 {
+        return false;
+    }
+    let words = slots::load(held, args[0]);
+    let end = slots::length_of(held, args[0]);
+    let count = surplus::eddy16_signed_count(&words[0..end]);
+    let negative = if lent::below_zero(count) == 0 { 0 } else { 1 };
+    agree::two(negative, lent::size(count), expected)
+}
+
 // A call that changes words, given a number or further sketches. Answers the refusal.
 fn changed(kind: u32, words: &mut [Word], left: &[Word], right: &[Word], number: u32) -> u32 {
     match kind {
@@ -43,6 +56,7 @@ fn changed(kind: u32, words: &mut [Word], left: &[Word], right: &[Word], number:
         4 => power_sum::eddy16_insert(words, widths::low_word(number)),
         5 => power_sum::eddy16_remove(words, widths::low_word(number)),
         6 => power_sum::eddy16_sub_assign(words, right),
+        24 => surplus::eddy16_negate(left, words),
         _ => power_sum::eddy16_sub(left, right, words),
     }
 }
@@ -59,15 +73,14 @@ fn change_as(
     agree::slot(refusal, words, expected)
 }
 
-// The slot that changes is the first, and of kind 7 the last; the second argument is a number or a slot.
+// The slot that changes is the first, and of the kinds 7 and 24 the last; the second argument is a number or a slot.
 fn change(kind: u32, args: &[u32], expected: &[u32], held: &mut [Word; PLACES]) -> bool {
     if args.len() < 2 {
         return false;
     }
-    let slot = if kind == 7 {
-        args[args.len() - 1]
-    } else {
-        args[0]
+    let slot = match kind {
+        7 | 24 => args[args.len() - 1],
+        _ => args[0],
     };
     let left = slots::load(held, args[0]);
     let left_end = slots::length_of(held, args[0]);
@@ -90,6 +103,7 @@ fn change(kind: u32, args: &[u32], expected: &[u32], held: &mut [Word; PLACES]) 
 fn listed(kind: u32, words: &[Word], log: &[Word], buffer: &mut [Word]) -> Number {
     match kind {
         8 => decoder::eddy16_to_coeffs(words, buffer),
+        25 => surplus::eddy16_decode_surplus_with_log(words, log, buffer),
         _ => decoder::eddy16_decode_with_log(words, log, buffer),
     }
 }
@@ -205,9 +219,10 @@ pub(crate) fn run(kind: u32, args: &[u32], expected: &[u32], held: &mut [Word; P
     match kind {
         2 => put(args, expected, held),
         3 => well_formed(args, expected, held),
-        8 | 10 => list(kind, args, expected, held),
+        8 | 10 | 25 => list(kind, args, expected, held),
         11 | 12 => serialize(kind, args, expected, held),
         13 => deserialize(args, expected, held),
+        23 => signed_count(args, expected, held),
         _ => change(kind, args, expected, held),
     }
 }

@@ -57,6 +57,8 @@ macro_rules! calls {
                     out: *mut Word,
                     out_len: usize,
                 ) -> u32;
+                pub fn negate(s: *const Word, s_len: usize, out: *mut Word, out_len: usize) -> u32;
+                pub fn signed_count(s: *const Word, s_len: usize) -> i32;
                 pub fn to_coeffs(s: *const Word, s_len: usize, coeffs: *mut Word, coeffs_len: usize) -> Number;
                 pub fn eval(coeffs: *const Word, coeffs_len: usize, x: Word) -> Value;
                 pub fn decode_with_log(
@@ -64,6 +66,14 @@ macro_rules! calls {
                     s_len: usize,
                     log: *const Word,
                     log_len: usize,
+                    out: *mut Word,
+                    out_len: usize,
+                ) -> Number;
+                pub fn decode_surplus_with_log(
+                    s: *const Word,
+                    s_len: usize,
+                    got: *const Word,
+                    got_len: usize,
                     out: *mut Word,
                     out_len: usize,
                 ) -> Number;
@@ -124,6 +134,17 @@ macro_rules! calls {
             unsafe { c::sub(s.as_ptr(), s.len(), rhs.as_ptr(), rhs.len(), out.as_mut_ptr(), out.len()) }
         }
 
+        /// Writes the negative of `s`, which has no last code, to the first words of `out`; the refusal.
+        pub fn negate(s: &[Word], out: &mut [Word]) -> u32 {
+            unsafe { c::negate(s.as_ptr(), s.len(), out.as_mut_ptr(), out.len()) }
+        }
+
+        /// The count that stands in the words, of a sketch or not, as a signed number; 0 where there are fewer words than
+        /// stand before the sums.
+        pub fn signed_count(s: &[Word]) -> i32 {
+            unsafe { c::signed_count(s.as_ptr(), s.len()) }
+        }
+
         /// Writes the coefficients, as many as the count, to the front of `coeffs`.
         pub fn to_coeffs(s: &[Word], coeffs: &mut [Word]) -> Number {
             unsafe { c::to_coeffs(s.as_ptr(), s.len(), coeffs.as_mut_ptr(), coeffs.len()) }
@@ -138,6 +159,14 @@ macro_rules! calls {
         /// the log.
         pub fn decode_with_log(s: &[Word], log: &[Word], out: &mut [Word]) -> Number {
             unsafe { c::decode_with_log(s.as_ptr(), s.len(), log.as_ptr(), log.len(), out.as_mut_ptr(), out.len()) }
+        }
+
+        /// Writes the entries of `got` that are in the negated sketch to the front of `out`, which needs as many places as
+        /// `got`; none where the signed count is 0 or more.
+        pub fn decode_surplus_with_log(s: &[Word], got: &[Word], out: &mut [Word]) -> Number {
+            unsafe {
+                c::decode_surplus_with_log(s.as_ptr(), s.len(), got.as_ptr(), got.len(), out.as_mut_ptr(), out.len())
+            }
         }
 
         /// Writes the sketch as a packet to the front of `buf`.

@@ -51,8 +51,8 @@ pub const THRESHOLD_OUT_OF_RANGE: u32 = 1;
 pub const THRESHOLDS_DIFFER: u32 = 2;
 /// Refusal: there is no last code.
 pub const NO_LAST_CODE: u32 = 3;
-/// Refusal: the count is above the threshold; or [`width16::eval_precompute`] has more than [`MAX_THRESHOLD`]
-/// coefficients.
+/// Refusal: the count is above the threshold; for a decoding of the surplus, the signed count is negative and its size is
+/// above the threshold; or [`width16::eval_precompute`] has more than [`MAX_THRESHOLD`] coefficients.
 pub const COUNT_ABOVE_THRESHOLD: u32 = 4;
 /// Refusal: a slice to write to is too short.
 pub const BUFFER_TOO_SHORT: u32 = 5;

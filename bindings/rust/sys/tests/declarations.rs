@@ -24,14 +24,14 @@ struct Width {
 const WIDTHS: [Width; 2] = [
     Width {
         bits: 32,
-        functions: 20,
+        functions: 23,
         modulus: sys::width32::MODULUS,
         formulas: ["(4 + (t))", "(8 + 4 * (t))"],
         lengths: [sys::width32::words(5), sys::width32::packet_bytes(5)],
     },
     Width {
         bits: 16,
-        functions: 21,
+        functions: 24,
         modulus: sys::width16::MODULUS as u32,
         formulas: ["(5 + (t))", "(6 + 2 * (t))"],
         lengths: [sys::width16::words(5), sys::width16::packet_bytes(5)],
@@ -101,6 +101,7 @@ impl Width {
         let own = name.trim().replace(&format!("eddy{}_", self.bits), "");
         let same = match own.as_str() {
             "size_t" => "usize",
+            "int32_t" => "i32",
             "uint16_t" => "u16",
             "uint32_t" => "u32",
             "uint8_t *" => "*mut u8",

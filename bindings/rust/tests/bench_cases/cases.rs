@@ -41,6 +41,14 @@ fn packet_with_sum(sum: Word) -> Vec<u8> {
     [&count.to_le_bytes()[..], &last.to_le_bytes(), &sum.to_le_bytes()].concat()
 }
 
+/// A sketch of as many sums 1 as the threshold, and of a count.
+fn sketch_with_count(threshold: usize, count: u32) -> Sketch {
+    let numbers = vec![1 as Word; 1 + threshold];
+    let codes = numbers.iter().flat_map(|number| number.to_le_bytes());
+    let packet: Vec<u8> = count.to_le_bytes().into_iter().chain(codes).collect();
+    Sketch::deserialize(&packet).expect("a packet of the threshold")
+}
+
 #[test]
 fn p1_residues() {
     assert_eq!(residues([P - 1, P, Word::MAX]).map(Residue::value), [P - 1, 0, NUMBERS.residue_of_max]);
@@ -111,6 +119,18 @@ fn p9_count_below_zero() {
 }
 
 #[test]
+fn p9_surplus_of_a_count_below_zero() {
+    let mut sketch = fresh(1);
+    sketch.remove(1);
+    assert_eq!(sketch.signed_count(), -1);
+    assert_eq!(sketch.decode_surplus_with_log(&[1, 2]).unwrap(), [1]);
+    assert_eq!(sketch.decode_with_log(&[1, 2]), Err(Refusal::CountAboveThreshold));
+    let negated = sketch.negated();
+    assert_eq!((negated.threshold(), negated.count(), negated.last_value()), (1, 1, None));
+    assert_eq!(sums_of(&negated), [1]);
+}
+
+#[test]
 fn p10_count_zero_decodes_to_nothing() {
     let mut sketch = sketch_of(2, &[1]);
     sketch.remove(2);
@@ -118,6 +138,8 @@ fn p10_count_zero_decodes_to_nothing() {
     assert_eq!(sketch.count(), 0);
     assert_eq!(sketch.last_value(), Some(1));
     assert_eq!(sketch.decode_with_log(&[1, 2]).unwrap(), []);
+    assert_eq!(sketch.decode_surplus_with_log(&[1, 2]).unwrap(), []);
+    assert_eq!(sketch.signed_count(), 0);
 }
 
 #[test]
@@ -190,6 +212,79 @@ fn subtractions() {
     kept.sub_assign(&sketch_of(3, &[1, 10])).unwrap();
     assert_eq!(sums_of(&kept), [2, 4, 8]);
     assert_eq!(kept.decode_with_log(&[1, 2, 10]).unwrap(), [2]);
+}
+
+#[test]
+fn counts_read_as_signed_numbers() {
+    let counts = [
+        (0, 0),
+        (1, 1),
+        (65536, 65536),
+        (2147483647, 2147483647),
+        (2147483648, -2147483648),
+        (2147483649, -2147483647),
+        (4294901760, -65536),
+        (4294967295, -1),
+    ];
+    for (count, signed) in counts {
+        let sketch = sketch_with_count(1, count);
+        assert_eq!((sketch.count(), sketch.signed_count()), (count, signed));
+    }
+}
+
+#[test]
+fn surplus_up_to_the_threshold_and_no_further() {
+    for threshold in [1, 2, 31, 32] {
+        let of = |count: i64| sketch_with_count(threshold, count as u32);
+        let most = threshold as i64;
+        for count in [-most, -1] {
+            assert!(of(count).decode_surplus_with_log(&[0, 1, P - 1]).is_ok());
+        }
+        for count in [-most - 1, -2147483647, -2147483648] {
+            assert_eq!(of(count).decode_surplus_with_log(&[]), Err(Refusal::CountAboveThreshold));
+        }
+        for count in [0, 1, most + 1, 2147483647] {
+            assert_eq!(of(count).decode_surplus_with_log(&[0, 1, P - 1]).unwrap(), []);
+        }
+    }
+}
+
+#[test]
+fn surplus_is_listed_as_it_was_got() {
+    let got = [10, 12, Word::MAX, 10, 12, NUMBERS.residue_of_max, 9];
+    let (sent, received) = (sketch_of(3, &[10]), sketch_of(3, &[12, 10, 10, Word::MAX]));
+    let surplus = sent.sub(&received);
+    assert_eq!(surplus.signed_count(), -3);
+    assert_eq!(surplus.decode_surplus_with_log(&got).unwrap(), got[..6]);
+    assert_eq!(surplus.negated().decode_with_log(&got).unwrap(), got[..6]);
+    assert_eq!(surplus.negated(), received.sub(&sent));
+}
+
+#[test]
+fn decoding_the_surplus_into_a_lent_slice() {
+    let mut sketch = fresh(3);
+    [10, 12].into_iter().for_each(|value| sketch.remove(value));
+    let mut out = [7; 6];
+    assert_eq!(sketch.decode_surplus_into(&[1, 2, 10, 12, 10], &mut out), Ok(3));
+    assert_eq!(out, [10, 12, 10, 7, 7, 7]);
+    assert_eq!(sketch.decode_surplus_into(&[10; 7], &mut out), Err(Refusal::BufferTooShort));
+    assert_eq!(fresh(3).decode_surplus_into(&[10; 7], &mut out), Err(Refusal::BufferTooShort));
+    assert_eq!(fresh(3).decode_surplus_into(&[10; 6], &mut out), Ok(0));
+    assert_eq!(sketch.decode_surplus_into(&[], &mut []), Ok(0));
+    (0..2).for_each(|value| sketch.remove(value));
+    assert_eq!(sketch.decode_surplus_into(&[10; 7], &mut out), Err(Refusal::CountAboveThreshold));
+    assert_eq!(out, [10, 12, 10, 7, 7, 7]);
+}
+
+#[test]
+fn negation_is_a_subtraction_from_nothing() {
+    for threshold in 1..=32 {
+        let sketch = sketch_of(threshold, &[1, 10, P - 1]);
+        assert_eq!(sketch.negated(), fresh(threshold).sub(&sketch));
+        assert_eq!(sketch.negated().signed_count(), -3);
+        assert_eq!(sketch.negated().negated(), sketch.sub(&fresh(threshold)));
+        assert_eq!(fresh(threshold).negated(), fresh(threshold));
+    }
 }
 
 #[test]
