@@ -6,7 +6,7 @@ ghost use lib.ListN.{length};
 ghost use Rattle.desk_rules.specs.Desk.{mostLines};
 ghost use Rattle.desk_reader.specs.Reader.{startOf};
 ghost use Rattle.desk_text.specs.Writer.{Within};
-ghost use Rattle.desk.specs.Input.{room, afterRead, logAfterRead, Came, Answered};
+ghost use Rattle.desk.specs.Input.{room, afterRead, logAfterRead, gotAfterRead, Came, Answered};
 use desk_reader::Reading;
 use desk_text::answer;
 use libc::STDERR_FILENO;
@@ -28,25 +28,32 @@ fn unread() -> Reading
     desk_reader::start()
 }
 
-// After a read that answered `got`: it failed, or the input has ended, or so many bytes stand at the front of the piece.
-fn after_read(reading: Reading, log: &mut [u32], got: isize, piece: &[u8]) -> Source
-    ensures answer { λ r. ⌜ r ≡ afterRead reading (now (log .entry)) got (now (piece .entry)) ⌝ }
-    ensures log { λ r. ⌜ now (log .exit) ≡ logAfterRead reading (now (log .entry)) got (now (piece .entry)) ⌝ }
+// After a read that answered `told`: it failed, or the input has ended, or so many bytes stand at the front of the piece.
+fn after_read(
+    reading: Reading,
+    log: &mut [u32],
+    got: &mut [u32],
+    told: isize,
+    piece: &[u8],
+) -> Source
+    ensures answer { λ r. ⌜ r ≡ afterRead reading (now (log .entry)) (now (got .entry)) told (now (piece .entry)) ⌝ }
+    ensures log { λ r. ⌜ now (log .exit) ≡ logAfterRead reading (now (log .entry)) (now (got .entry)) told (now (piece .entry)) ⌝ }
+    ensures got { λ r. ⌜ now (got .exit) ≡ gotAfterRead reading (now (log .entry)) (now (got .entry)) told (now (piece .entry)) ⌝ }
 {
-    if got < 0 {
+    if told < 0 {
         return Source {
             reading: unread(),
             more: false,
         };
     }
-    let n = io::count(got, piece);
+    let n = io::count(told, piece);
     if n == 0 {
         return Source {
             reading,
             more: false,
         };
     }
-    let fed = desk_reader::feed(reading, log, &piece[..n]);
+    let fed = desk_reader::feed(reading, log, got, &piece[..n]);
     let next = fed.reading;
     Source {
         reading: next,
@@ -56,16 +63,16 @@ fn after_read(reading: Reading, log: &mut [u32], got: isize, piece: &[u8]) -> So
 
 // The whole input. A loop that is proved has to end, and nothing says that an input does: the reads are counted down from a number that no run uses up,
 // and an input that did would be answered as one that cannot be read.
-fn read_all(log: &mut [u32]) -> Reading
-    requires { ⌜ mostLines ≤ length (now log) ⌝ }
-    ensures { λ r. ⌜ Came r (now (log .exit)) ⌝ }
+fn read_all(log: &mut [u32], got: &mut [u32]) -> Reading
+    requires { ⌜ (mostLines ≤ length (now log)) × (mostLines ≤ length (now got)) ⌝ }
+    ensures { λ r. ⌜ Came r (now (log .exit)) (now (got .exit)) ⌝ }
 {
     let mut piece = io::large_buffer();
     let mut reading = desk_reader::start();
     let mut reads = u64::MAX;
     while reads > 0 {
-        let got = libc::read(STDIN_FILENO, &mut piece);
-        let source = after_read(reading, &mut *log, got, &piece);
+        let told = libc::read(STDIN_FILENO, &mut piece);
+        let source = after_read(reading, &mut *log, &mut *got, told, &piece);
         reading = source.reading;
         if !source.more {
             return reading;
@@ -82,8 +89,9 @@ fn answer_input(out: &mut [u8]) -> usize
     ensures within { λ n. ⌜ Within n (now (out .exit)) ⌝ }
 {
     let mut log = [0u32; 8192];
-    let reading = read_all(&mut log);
-    let written = answer::finish(reading, &log, out);
+    let mut got = [0u32; 8192];
+    let reading = read_all(&mut log, &mut got);
+    let written = answer::finish(reading, &log, &got, out);
     written.value
 }
 

@@ -50,11 +50,19 @@ fn push_logs(out: &mut [u8], from: u32, many: u32) -> usize
     push_lines(out, end, b"log=", from, 1, many)
 }
 
-// An input to which `head` and then missing lines should be written.
-fn listing(t: Tally, input: &[u8], head: &[u8], from: u32, step: u32, many: u32) -> Tally {
+// An input to which `head` and then `many` lines of a word should be written.
+fn listing(
+    t: Tally,
+    input: &[u8],
+    head: &[u8],
+    word: &[u8],
+    from: u32,
+    step: u32,
+    many: u32,
+) -> Tally {
     let mut expected = tally::buffer();
     let a = push(&mut expected, 0, head);
-    let end = push_lines(&mut expected, a, b"missing=", from, step, many);
+    let end = push_lines(&mut expected, a, word, from, step, many);
     t.case(input, &expected[..end])
 }
 
@@ -77,7 +85,7 @@ pub(crate) fn all_the_same(t: Tally) -> Tally {
     let b = push_lines(&mut input, a, b"log=", 4294967295, 0, 8192);
     let end = push_lines(&mut input, b, b"got=", 4294967295, 0, 8191);
     let head = b"refusal=0\nthreshold=1\ncount=1\nfound=8192\n";
-    listing(t, &input[..end], head, 4294967295, 0, 8192)
+    listing(t, &input[..end], head, b"missing=", 4294967295, 0, 8192)
 }
 
 // As many missing as the greatest threshold allows.
@@ -86,7 +94,7 @@ pub(crate) fn all_missing(t: Tally) -> Tally {
     let a = push_logs(&mut input, 1, 40);
     let end = push_lines(&mut input, a, b"got=", 1, 1, 8);
     let head = b"refusal=0\nthreshold=32\ncount=32\nfound=32\n";
-    listing(t, &input[..end], head, 9, 1, 32)
+    listing(t, &input[..end], head, b"missing=", 9, 1, 32)
 }
 
 // One more than that.
@@ -116,12 +124,53 @@ pub(crate) fn one_line_too_many(t: Tally) -> Tally {
     after_the_last(t, b"got=1\nlog=8192\n", bad)
 }
 
-// Got lines have no limit.
-pub(crate) fn many_got(t: Tally) -> Tally {
+// As many got lines as there may be, and as many of them surplus as the greatest threshold allows.
+pub(crate) fn all_surplus(t: Tally) -> Tally {
     let mut input = tally::buffer();
-    let a = push_logs(&mut input, 5, 2);
-    let end = push_lines(&mut input, a, b"got=", 5, 0, 10000);
+    let a = push_logs(&mut input, 0, 8160);
+    let end = push_lines(&mut input, a, b"got=", 0, 1, 8192);
+    let head = b"refusal=0\nthreshold=32\ncount=-32\nfound=32\n";
+    listing(t, &input[..end], head, b"surplus=", 8160, 1, 32)
+}
+
+// The same with one code for all: every got code is listed, in the longest answer that there is.
+pub(crate) fn all_surplus_the_same(t: Tally) -> Tally {
+    let mut input = tally::buffer();
+    let a = push(&mut input, 0, b"threshold=32\n");
+    let b = push_lines(&mut input, a, b"log=", 4294967295, 0, 8160);
+    let end = push_lines(&mut input, b, b"got=", 4294967295, 0, 8192);
+    let head = b"refusal=0\nthreshold=32\ncount=-32\nfound=8192\n";
+    listing(t, &input[..end], head, b"surplus=", 4294967295, 0, 8192)
+}
+
+// One surplus more than the greatest threshold allows.
+pub(crate) fn one_too_many_surplus(t: Tally) -> Tally {
+    let mut input = tally::buffer();
+    let a = push_logs(&mut input, 0, 8159);
+    let end = push_lines(&mut input, a, b"got=", 0, 1, 8192);
     t.case(&input[..end], b"refusal=4\n")
+}
+
+// As many log lines and got lines as there may be, and then some other bytes.
+fn after_the_last_got(t: Tally, bytes: &[u8], expected: &[u8]) -> Tally {
+    let mut input = tally::buffer();
+    let a = push_logs(&mut input, 0, 8192);
+    let b = push_lines(&mut input, a, b"got=", 0, 1, 8192);
+    let end = push(&mut input, b, bytes);
+    t.case(&input[..end], expected)
+}
+
+// What may stand behind got line 8,192: no further got line, and the first bad line decides.
+pub(crate) fn one_got_line_too_many(t: Tally) -> Tally {
+    let bad: &[u8] = b"refusal=9\n";
+    let too_many: &[u8] = b"refusal=10\n";
+    let t = after_the_last_got(t, b"", b"refusal=0\nthreshold=32\ncount=0\nfound=0\n");
+    let t = after_the_last_got(t, b"got=8192\n", too_many);
+    let t = after_the_last_got(t, b"got=08192\n", bad);
+    let t = after_the_last_got(t, b"got=8192\ngot=x\n", too_many);
+    let t = after_the_last_got(t, b"got=x\ngot=8192\n", bad);
+    let t = after_the_last_got(t, b"log=8192\n", bad);
+    after_the_last_got(t, b"got=8192", bad)
 }
 
 // A number of very many digits, and a word of very many bytes.

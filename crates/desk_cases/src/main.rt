@@ -13,7 +13,10 @@ fn large_inputs(t: Tally) -> Tally {
     let t = large::all_missing(t);
     let t = large::one_too_many_missing(t);
     let t = large::one_line_too_many(t);
-    let t = large::many_got(t);
+    let t = large::all_surplus(t);
+    let t = large::all_surplus_the_same(t);
+    let t = large::one_too_many_surplus(t);
+    let t = large::one_got_line_too_many(t);
     large::long_lines(t)
 }
 

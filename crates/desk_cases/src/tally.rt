@@ -22,16 +22,17 @@ fn in_pieces(input: &[u8], expected: &[u8], size: usize) -> bool
     requires { ⌜ 0 < size ⌝ }
 {
     let mut log = [0u32; 8192];
+    let mut got = [0u32; 8192];
     let mut reading = desk_reader::start();
     let mut at: usize = 0;
     while at < input.len() {
         let end = at + lent::smaller(size, input.len() - at);
-        let fed = desk_reader::feed(reading, &mut log, &input[at..end]);
+        let fed = desk_reader::feed(reading, &mut log, &mut got, &input[at..end]);
         reading = fed.reading;
         at = end;
     }
     let mut out = buffer();
-    let written = answer::finish(reading, &log, &mut out);
+    let written = answer::finish(reading, &log, &got, &mut out);
     let n = written.value;
     check::same(&out[..n], expected)
 }

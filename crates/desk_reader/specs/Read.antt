@@ -7,15 +7,15 @@ use Rattle.desk_rules.specs.Desk.{mostLines}
 use Rattle.desk_reader.specs.declared.Reading.{Reading}
 use Rattle.desk_reader.specs.declared.Fed.{Fed}
 
--- What the contracts of the reader's calls allow: `starts` the reading that is answered; `feeds`, for a reading, the log that it is lent and a piece, the
--- answer and the log after the call.
+-- What the contracts of the reader's calls allow: `starts` the reading that is answered; `feeds`, for a reading, the log and the got codes that it is lent and
+-- a piece, the answer and both lists after the call.
 pub record Calls : Type 1 where
   pub starts : Reading → Type 0
-  pub feeds : Reading → List ℕ → List ℕ → Fed → List ℕ → Type 0
+  pub feeds : Reading → List ℕ → List ℕ → List ℕ → Fed → List ℕ → List ℕ → Type 0
 
--- A reading and the log that it is lent, got by calls from these bytes: `start`, with a log that has a place for each entry that may come, and then `feed`
--- for each piece.
-pub data Read (C : Calls) : List ℕ → Reading → List ℕ → Type 0 where
-  begun : {r : Reading} (log : List ℕ) → mostLines ≤ length log → C .starts r → Read C [] r log
-  further : {bs : List ℕ} {r : Reading} {z : Fed} (log piece log′ : List ℕ) → Read C bs r log → C .feeds r log piece z log′
-      → Read C (bs ++ piece) (z .reading) log′
+-- A reading and the lists that it is lent, got by calls from these bytes: `start`, with a log and got codes that have a place for each line that may come, and
+-- then `feed` for each piece.
+pub data Read (C : Calls) : List ℕ → Reading → List ℕ → List ℕ → Type 0 where
+  begun : {r : Reading} (log got : List ℕ) → mostLines ≤ length log → mostLines ≤ length got → C .starts r → Read C [] r log got
+  further : {bs : List ℕ} {r : Reading} {z : Fed} (log got piece log′ got′ : List ℕ) → Read C bs r log got → C .feeds r log got piece z log′ got′
+      → Read C (bs ++ piece) (z .reading) log′ got′

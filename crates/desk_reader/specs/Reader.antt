@@ -1,7 +1,7 @@
 -- What the reader's functions answer, over its own structs. Definitions only.
 -- Assumes nothing.
 use Prim.Native.Nat.{ℕ, _+_, _-_, _*_}
-use mathlib.Core.Bool.{cond, _&&_}
+use mathlib.Core.Bool.{Bool, cond, _&&_}
 use mathlib.Core.List.{List, foldl}
 use lib.Dec.{eqb, leb, ltb}
 use lib.ListN.{length, getD, set}
@@ -63,7 +63,7 @@ byPhase (Stopped n) a b c d = d
 
 -- A desk without sketches: before the first line, or after a refusal.
 abbrev pub emptyDesk : Phase → Desk
-emptyDesk p = record { phase = p; entries = 0; sent = empty; arrived = empty }
+emptyDesk p = record { phase = p; entries = 0; gots = 0; sent = empty; arrived = empty }
 
 -- A line that is not allowed where it stands: 9, unless an earlier line has decided.
 abbrev pub badLine : Desk → Desk
@@ -71,7 +71,8 @@ badLine d = byPhase (d .phase) (emptyDesk (Stopped 9)) (emptyDesk (Stopped 9)) (
 
 -- The desk after a threshold line, by what making a sketch answers.
 abbrev pub startedDesk : Answer → Desk
-startedDesk a = cond (eqb (a .refusal) 0) (record { phase = Logs; entries = 0; sent = a .sketch; arrived = a .sketch }) (emptyDesk (Stopped (a .refusal)))
+startedDesk a =
+    cond (eqb (a .refusal) 0) (record { phase = Logs; entries = 0; gots = 0; sent = a .sketch; arrived = a .sketch }) (emptyDesk (Stopped (a .refusal)))
 
 -- A threshold line: allowed as the first.
 abbrev pub thresholdLine : Desk → ℕ → Desk
@@ -83,7 +84,7 @@ coded c = record { 0 = c }
 
 -- The desk with one log code more.
 abbrev pub logDesk : Desk → ℕ → Desk
-logDesk d c = record { phase = Logs; entries = d .entries + 1; sent = insertOf (d .sent) (coded c) .sketch; arrived = d .arrived }
+logDesk d c = record { phase = Logs; entries = d .entries + 1; gots = d .gots; sent = insertOf (d .sent) (coded c) .sketch; arrived = d .arrived }
 
 -- A log line: allowed before the got lines, and 10 beyond as many as there may be.
 abbrev pub logLine : Desk → ℕ → Desk
@@ -95,11 +96,23 @@ storedLog d c log = byPhase (d .phase) log (cond (ltb (d .entries) mostLines) (s
 
 -- The desk with one got code more.
 abbrev pub gotDesk : Desk → ℕ → Desk
-gotDesk d c = record { phase = Gots; entries = d .entries; sent = d .sent; arrived = insertOf (d .arrived) (coded c) .sketch }
+gotDesk d c = record { phase = Gots; entries = d .entries; gots = d .gots + 1; sent = d .sent; arrived = insertOf (d .arrived) (coded c) .sketch }
+
+-- A got code where got lines are allowed: 10 beyond as many as there may be.
+abbrev pub keptDesk : Desk → ℕ → Desk
+keptDesk d c = cond (ltb (d .gots) mostLines) (gotDesk d c) (emptyDesk (Stopped 10))
+
+-- It is stored behind the got codes so far.
+abbrev pub keptGot : Desk → ℕ → List ℕ → List ℕ
+keptGot d c got = cond (ltb (d .gots) mostLines) (set got (d .gots) c) got
 
 -- A got line: allowed behind the threshold line, and no log line comes behind it.
 abbrev pub gotLine : Desk → ℕ → Desk
-gotLine d c = byPhase (d .phase) (badLine d) (gotDesk d c) (gotDesk d c) (badLine d)
+gotLine d c = byPhase (d .phase) (badLine d) (keptDesk d c) (keptDesk d c) (badLine d)
+
+-- The lent got codes after a got line.
+abbrev pub storedGot : Desk → ℕ → List ℕ → List ℕ
+storedGot d c got = byPhase (d .phase) got (keptGot d c got) (keptGot d c got) got
 
 -- The desk after a whole line, by where its bytes have led.
 unfoldable pub takeLine : Desk → Line → Desk
@@ -119,27 +132,44 @@ takenLog d Fresh log = log
 takenLog d (Word k at) log = log
 takenLog d Bad log = log
 
+-- The lent got codes after a whole line.
+unfoldable pub takenGot : Desk → Line → List ℕ → List ℕ
+takenGot d (Value Threshold v) got = got
+takenGot d (Value Log v) got = got
+takenGot d (Value Got v) got = storedGot d v got
+takenGot d Fresh got = got
+takenGot d (Word k at) got = got
+takenGot d Bad got = got
+
 -- ---- a piece
 
--- A reading with the log that it is lent.
+-- A reading with the log and the got codes that it is lent.
 pub record Standing : Type 0 where
   pub reading : Reading
   pub log : List ℕ
+  pub got : List ℕ
 
--- The two side by side.
-abbrev pub standing : Reading → List ℕ → Standing
-standing r log = record { reading = r; log = log }
+-- The three side by side.
+abbrev pub standing : Reading → List ℕ → List ℕ → Standing
+standing r log got = record { reading = r; log = log; got = got }
 
 -- A desk and the line begun.
 abbrev pub reading : Desk → Line → Reading
 reading d l = record { desk = d; line = l }
 
+-- After a whole line.
+abbrev pub lineTaken : Standing → Standing
+lineTaken s =
+    standing (reading (takeLine (s .reading .desk) (s .reading .line)) Fresh) (takenLog (s .reading .desk) (s .reading .line) (s .log))
+    (takenGot (s .reading .desk) (s .reading .line) (s .got))
+
+-- After one more byte of a line.
+abbrev pub byteTaken : Standing → ℕ → Standing
+byteTaken s b = standing (reading (s .reading .desk) (lineByte (s .reading .line) b)) (s .log) (s .got)
+
 -- LF ends a line, any other byte goes on with it.
 abbrev pub byteOf : Standing → ℕ → Standing
-byteOf s b =
-    cond (eqb b LF)
-    (standing (reading (takeLine (s .reading .desk) (s .reading .line)) Fresh) (takenLog (s .reading .desk) (s .reading .line) (s .log)))
-    (standing (reading (s .reading .desk) (lineByte (s .reading .line) b)) (s .log))
+byteOf s b = cond (eqb b LF) (lineTaken s) (byteTaken s b)
 
 -- The bytes of a piece, one after the other.
 abbrev pub fedOf : Standing → List ℕ → Standing
@@ -151,11 +181,19 @@ fedOf = foldl byteOf
 abbrev pub startOf : Reading
 startOf = reading (emptyDesk Unbegun) Fresh
 
--- 5 where the lent log has fewer places than there may be log lines; the reading is handed back, and the log stays.
-unfoldable pub feedAnswer : Reading → List ℕ → List ℕ → Fed
-feedAnswer r log piece =
-    cond (leb mostLines (length log)) (record { refusal = 0; reading = fedOf (standing r log) piece .reading }) (record { refusal = 5; reading = r })
+-- Both lent arrays have a place for each line that may come.
+abbrev pub enoughPlaces : List ℕ → List ℕ → Bool
+enoughPlaces log got = leb mostLines (length log) && leb mostLines (length got)
+
+-- 5 where the log or the got codes have fewer places than there may be lines of each; the reading is handed back, and both stay.
+unfoldable pub feedAnswer : Reading → List ℕ → List ℕ → List ℕ → Fed
+feedAnswer r log got piece =
+    cond (enoughPlaces log got) (record { refusal = 0; reading = fedOf (standing r log got) piece .reading }) (record { refusal = 5; reading = r })
 
 -- The lent log after a piece: as it was where the call is refused.
-unfoldable pub feedLog : Reading → List ℕ → List ℕ → List ℕ
-feedLog r log piece = cond (leb mostLines (length log)) (fedOf (standing r log) piece .log) log
+unfoldable pub feedLog : Reading → List ℕ → List ℕ → List ℕ → List ℕ
+feedLog r log got piece = cond (enoughPlaces log got) (fedOf (standing r log got) piece .log) log
+
+-- The lent got codes after a piece: as they were where the call is refused.
+unfoldable pub feedGot : Reading → List ℕ → List ℕ → List ℕ → List ℕ
+feedGot r log got piece = cond (enoughPlaces log got) (fedOf (standing r log got) piece .got) got

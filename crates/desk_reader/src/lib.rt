@@ -4,12 +4,12 @@ ghost use Prim.Native.Nat.{_≤_, _<_};
 ghost use lib.ListN.{length, getD};
 ghost use Rattle.desk_rules.specs.Desk.{mostLines};
 ghost use Rattle.desk_reader.specs.Reader.{wordOf, firstByte, wordByte, firstDigit, nextDigit, lineByte};
-ghost use Rattle.desk_reader.specs.Reader.{emptyDesk, badLine, thresholdLine, logDesk, logLine, storedLog, gotDesk, gotLine, takeLine, takenLog};
-ghost use Rattle.desk_reader.specs.Reader.{standing, fedOf, startOf, feedAnswer, feedLog};
+ghost use Rattle.desk_reader.specs.Reader.{emptyDesk, badLine, thresholdLine, logDesk, logLine, storedLog, gotDesk, keptDesk, keptGot, gotLine};
+ghost use Rattle.desk_reader.specs.Reader.{storedGot, takeLine, takenLog, takenGot, standing, fedOf, startOf, feedAnswer, feedLog, feedGot};
 use modint32::Code;
 use power_sum32::power_sum::PowerSumQuackU32;
 
-// How many log lines an input may have, and places a lent log.
+// How many log lines an input may have, and how many got lines; and how many places the arrays lent for their codes have.
 pub const MOST_LINES: usize = 8192;
 
 // The word of a line.
@@ -36,10 +36,11 @@ pub enum Phase {
 }
 
 // What the whole lines so far have given: `sent` is the sketch of the log lines, `arrived` that of the got lines. The log's entries stand in a lent
-// array, from its front.
+// array, from its front, and so do the got codes in another.
 pub struct Desk {
     pub phase: Phase,
     pub entries: usize,
+    pub gots: usize,
     pub sent: PowerSumQuackU32,
     pub arrived: PowerSumQuackU32,
 }
@@ -175,6 +176,7 @@ fn empty_desk(phase: Phase) -> Desk
     Desk {
         phase,
         entries: 0,
+        gots: 0,
         sent: none,
         arrived: none,
     }
@@ -205,6 +207,7 @@ fn threshold_line(d: Desk, threshold: u32) -> Desk
                 return Desk {
                     phase: Phase::Logs,
                     entries: 0,
+                    gots: 0,
                     sent: fresh,
                     arrived: fresh,
                 };
@@ -227,6 +230,7 @@ fn with_log(d: Desk, code: u32) -> Desk
     Desk {
         phase: Phase::Logs,
         entries: d.entries + 1,
+        gots: d.gots,
         sent,
         arrived,
     }
@@ -254,6 +258,7 @@ fn log_line(d: Desk, log: &mut [u32], code: u32) -> Desk
 }
 
 fn with_got(d: Desk, code: u32) -> Desk
+    requires { ⌜ d .gots < mostLines ⌝ }
     ensures { λ r. ⌜ r ≡ gotDesk d code ⌝ }
 {
     let sent = d.sent;
@@ -262,34 +267,52 @@ fn with_got(d: Desk, code: u32) -> Desk
     Desk {
         phase: Phase::Gots,
         entries: d.entries,
+        gots: d.gots + 1,
         sent,
         arrived,
     }
 }
 
-fn got_line(d: Desk, code: u32) -> Desk
-    ensures { λ r. ⌜ r ≡ gotLine d code ⌝ }
+// A got code where got lines are allowed.
+fn keep_got(d: Desk, got: &mut [u32], code: u32) -> Desk
+    requires { ⌜ mostLines ≤ length (now got) ⌝ }
+    ensures answer { λ r. ⌜ r ≡ keptDesk d code ⌝ }
+    ensures kept { λ r. ⌜ now (got .exit) ≡ keptGot d code (now (got .entry)) ⌝ }
+{
+    let gots = d.gots;
+    if gots < MOST_LINES {
+        got[gots] = code;
+        return with_got(d, code);
+    }
+    empty_desk(Phase::Stopped(10))
+}
+
+fn got_line(d: Desk, got: &mut [u32], code: u32) -> Desk
+    requires { ⌜ mostLines ≤ length (now got) ⌝ }
+    ensures answer { λ r. ⌜ r ≡ gotLine d code ⌝ }
+    ensures kept { λ r. ⌜ now (got .exit) ≡ storedGot d code (now (got .entry)) ⌝ }
 {
     let phase = d.phase;
     match phase {
-        Phase::Logs => with_got(d, code),
-        Phase::Gots => with_got(d, code),
+        Phase::Logs => keep_got(d, got, code),
+        Phase::Gots => keep_got(d, got, code),
         Phase::Unbegun => bad_line(d),
         Phase::Stopped(_) => bad_line(d),
     }
 }
 
 // A whole line.
-fn take_line(d: Desk, log: &mut [u32], l: Line) -> Desk
-    requires { ⌜ mostLines ≤ length (now log) ⌝ }
+fn take_line(d: Desk, log: &mut [u32], got: &mut [u32], l: Line) -> Desk
+    requires { ⌜ (mostLines ≤ length (now log)) × (mostLines ≤ length (now got)) ⌝ }
     ensures answer { λ r. ⌜ r ≡ takeLine d l ⌝ }
-    ensures kept { λ r. ⌜ now (log .exit) ≡ takenLog d l (now (log .entry)) ⌝ }
+    ensures log { λ r. ⌜ now (log .exit) ≡ takenLog d l (now (log .entry)) ⌝ }
+    ensures got { λ r. ⌜ now (got .exit) ≡ takenGot d l (now (got .entry)) ⌝ }
 {
     match l {
         Line::Value { key, value } => match key {
             Key::Threshold => threshold_line(d, value),
             Key::Log => log_line(d, log, value),
-            Key::Got => got_line(d, value),
+            Key::Got => got_line(d, got, value),
         },
         Line::Fresh => bad_line(d),
         Line::Word { key: _, at: _ } => bad_line(d),
@@ -298,16 +321,17 @@ fn take_line(d: Desk, log: &mut [u32], l: Line) -> Desk
 }
 
 // The core of `feed`.
-fn take_bytes(r: Reading, log: &mut [u32], piece: &[u8]) -> Reading
-    requires { ⌜ mostLines ≤ length (now log) ⌝ }
-    ensures { λ z. ⌜ standing z (now (log .exit)) ≡ fedOf (standing r (now (log .entry))) (now (piece .entry)) ⌝ }
+fn take_bytes(r: Reading, log: &mut [u32], got: &mut [u32], piece: &[u8]) -> Reading
+    requires { ⌜ (mostLines ≤ length (now log)) × (mostLines ≤ length (now got)) ⌝ }
+    ensures { λ z.
+        ⌜ standing z (now (log .exit)) (now (got .exit)) ≡ fedOf (standing r (now (log .entry)) (now (got .entry))) (now (piece .entry)) ⌝ }
 {
     let mut desk = r.desk;
     let mut line = r.line;
     for i in 0..piece.len() {
         let b = piece[i];
         if b == b'\n' {
-            desk = take_line(desk, &mut *log, line);
+            desk = take_line(desk, &mut *log, &mut *got, line);
             line = Line::Fresh;
         } else {
             line = line_byte(line, b);
@@ -326,10 +350,12 @@ pub fn start() -> Reading
     }
 }
 
-// The next piece of the input. The log's entries go to the front of the lent log, which has a place for each that may come.
-pub fn feed(r: Reading, log: &mut [u32], piece: &[u8]) -> Fed
-    ensures answer { λ z. ⌜ z ≡ feedAnswer r (now (log .entry)) (now (piece .entry)) ⌝ }
-    ensures log { λ z. ⌜ now (log .exit) ≡ feedLog r (now (log .entry)) (now (piece .entry)) ⌝ }
+// The next piece of the input. The log's entries go to the front of `log` and the got codes to the front of `got`, each of which has a place for every
+// line that may come.
+pub fn feed(r: Reading, log: &mut [u32], got: &mut [u32], piece: &[u8]) -> Fed
+    ensures answer { λ z. ⌜ z ≡ feedAnswer r (now (log .entry)) (now (got .entry)) (now (piece .entry)) ⌝ }
+    ensures log { λ z. ⌜ now (log .exit) ≡ feedLog r (now (log .entry)) (now (got .entry)) (now (piece .entry)) ⌝ }
+    ensures got { λ z. ⌜ now (got .exit) ≡ feedGot r (now (log .entry)) (now (got .entry)) (now (piece .entry)) ⌝ }
 {
     if log.len() < MOST_LINES {
         return Fed {
@@ -337,8 +363,14 @@ pub fn feed(r: Reading, log: &mut [u32], piece: &[u8]) -> Fed
             reading: r,
         };
     }
+    if got.len() < MOST_LINES {
+        return Fed {
+            refusal: 5,
+            reading: r,
+        };
+    }
     Fed {
         refusal: 0,
-        reading: take_bytes(r, log, piece),
+        reading: take_bytes(r, log, got, piece),
     }
 }

@@ -12,15 +12,16 @@ use lib.ListN.{length}
 use borrow.Author.Tests.{le-leb, lt-leb, lt-ltb, le-ltb, eqb-true, leb-true, leb-false}
 use Rattle.numbers.specs.Power.{powerWithin, powerMod}
 use Rattle.rules.specs.Kind.{Kind, kind32}
-use Rattle.rules.specs.Sketch.{Sketch, nothing, each, fresh, insert, subtract}
+use Rattle.rules.specs.Signed.{signedCount}
+use Rattle.rules.specs.Sketch.{Sketch, nothing, each, fresh, insert, subtract, negate}
 use Rattle.rules.specs.Decode as decoding
-use Rattle.rules.specs.Decode.{newestFirst, coefficients, evaluate}
+use Rattle.rules.specs.Decode.{newestFirst, coefficients, evaluate, surplus}
 use Rattle.rules.specs.Calls as calls
 use Rattle.desk_rules.specs.Lines.{bytesOf, LF, Cut, inFront, cut, greatestNumber, isDigit, allDigits, decimalValue, wellBegun, Number, some, none}
 use Rattle.desk_rules.specs.Lines.{number}
-use Rattle.desk_rules.specs.Lines.{log, keyed, parsed}
-use Rattle.desk_rules.specs.Desk.{mostLines, Seen, unbegun, logs, stopped, next, allLines, closed, readLines, decided, outcome}
-use Rattle.desk_rules.specs.Text.{decimalWithin, decimal, line, lines, printed, deskAnswer}
+use Rattle.desk_rules.specs.Lines.{log, got, keyed, parsed}
+use Rattle.desk_rules.specs.Desk.{mostLines, Seen, unbegun, logs, gots, stopped, next, allLines, closed, readLines, decided, outcome}
+use Rattle.desk_rules.specs.Text.{decimalWithin, decimal, line, signedLine, lines, printed, deskAnswer}
 use Rattle.rules.proofs.Each.{and-second}
 
 -- ---- a number, digit by digit
@@ -48,6 +49,7 @@ first-value b bs =
     let behind-nothing : 0 * 10 + (b - 48) ≡ b - 48 = omega arith in
     ap (λ (n : ℕ). decimalValue n bs) behind-nothing
 
+-- A test and false come to false.
 and-no : (t : Bool) → t && false ≡ false
 and-no true = refl
 and-no false = refl
@@ -67,6 +69,7 @@ module _ (K : Kind) where
       let far : greatestNumber K < decimalValue m bs = omega (arith, leb-false m (greatestNumber K) e, grows m bs) in
       rw (lt-leb (decimalValue m bs) (greatestNumber K) far, and-no (allDigits bs))
 
+  -- Further digits read one by one are what they are all at once.
   further-at-once : (n : ℕ) (bs : List ℕ) → n ≤ greatestNumber K → further K n bs ≡ at-once n bs
   unfolding further allDigits decimalValue
   further-at-once n [] h = rw (le-leb n (greatestNumber K) h)
@@ -80,11 +83,13 @@ module _ (K : Kind) where
       let more : 256 ^ 1 ≤ 256 ^ K .codeBytes = pow-le-pow-right {n = 256} (omega arith) (K .some-byte) in
       omega arith
 
+  -- A number that begins with the digit 0 is that digit alone.
   nought-alone : (bs : List ℕ) → number K (48 ∷ bs) ≡ alone bs
   unfolding number wellBegun allDigits decimalValue alone
   nought-alone [] = rw (le-leb 0 (greatestNumber K) (omega arith))
   nought-alone (d ∷ bs) = refl
 
+  -- Digits that begin with another digit have no leading zero.
   well-begun : (b : ℕ) (bs : List ℕ) → eqb b 48 ≡ false → wellBegun (b ∷ bs) ≡ true
   unfolding wellBegun
   well-begun b [] e = refl
@@ -126,19 +131,23 @@ module _ (K : Kind) where
   readFrom s begun [] rest = closed s (begun ++ rest)
   readFrom s begun (l ∷ ls) rest = closed (allLines K s ((begun ++ l) ∷ ls)) rest
 
+  -- With no line begun, the lines are read as they stand.
   from-none : (s : Seen) (ls : List (List ℕ)) (rest : List ℕ) → readFrom s [] ls rest ≡ closed (allLines K s ls) rest
   from-none s [] rest = refl
   from-none s (l ∷ ls) rest = refl
 
+  -- A byte behind the line begun is one in front of the lines still to read.
   from-front : (s : Seen) (begun : List ℕ) (b : ℕ) (ls : List (List ℕ)) (rest : List ℕ)
       → readFrom s (begun ++ (b ∷ [])) ls rest ≡ readFrom s begun (inFront b ls rest .whole) (inFront b ls rest .rest)
   unfolding inFront
   from-front s begun b [] rest = rw append-assoc
   from-front s begun b (l ∷ ls) rest = rw append-assoc
 
+  -- Reading some bytes one by one gives what their lines give behind the line begun.
   abbrev Same : List ℕ → Type 0
   Same bs = (s : State) → closed (run s bs .seen) (run s bs .begun) ≡ readFrom (s .seen) (s .begun) (cut bs .whole) (cut bs .rest)
 
+  -- So it is with one byte in front of them, which ends the line or goes on with it.
   same-after : (ends : Bool) (b : ℕ) (bs : List ℕ) (s : State) → Same bs
       → closed (run (cond ends (record { seen = next K (s .seen) (parsed K (s .begun)); begun = [] })
       (record { seen = s .seen; begun = s .begun ++ (b ∷ []) })) bs .seen)
@@ -153,6 +162,7 @@ module _ (K : Kind) where
   same-after false b bs s rest =
       rest (record { seen = s .seen; begun = s .begun ++ (b ∷ []) }) ∙ from-front (s .seen) (s .begun) b (cut bs .whole) (cut bs .rest)
 
+  -- So it is for any bytes.
   same : (bs : List ℕ) → Same bs
   unfolding cut
   same [] s = rw append-nil
@@ -165,12 +175,14 @@ module _ (K : Kind) where
 
 -- ---- what the rules compute
 
+-- What the program writes for an input, both as text.
 abbrev Gives : String → String → Type 0
 Gives input output = deskAnswer kind32 (bytesOf input) ≡ bytesOf output
 
 -- The page's example; the threshold 0, with LF and without; an empty input; more lacking than the threshold allows; piece 2 before piece 10; repeats
 -- in the log; more entries listed than are missing; a leading zero, and one behind a line that decides already; a number above the greatest code; a second
--- threshold line; and behind got lines a log line, and bytes without LF.
+-- threshold line; behind got lines a log line, and bytes without LF; a surplus, as it stands among the got lines, repeats kept; as many surplus as the
+-- threshold allows, with no log line, and one more; and a bag that lacks a piece and has two others, of which none is told.
 pub examples : Gives "threshold=3\nlog=1\nlog=2\nlog=10\ngot=1\ngot=10\n" "refusal=0\nthreshold=3\ncount=1\nfound=1\nmissing=2\n"
     × Gives "threshold=0\n" "refusal=1\n"
     × Gives "threshold=0" "refusal=9\n"
@@ -185,9 +197,14 @@ pub examples : Gives "threshold=3\nlog=1\nlog=2\nlog=10\ngot=1\ngot=10\n" "refus
     × Gives "threshold=1\nthreshold=1\n" "refusal=9\n"
     × Gives "threshold=1\nlog=9\ngot=9\nlog=7\n" "refusal=9\n"
     × Gives "threshold=1\nlog=9\ngot=9\ngot=9" "refusal=9\n"
-unfolding deskAnswer printed lines line decimal decimalWithin outcome decided readLines closed next cut inFront parsed keyed number wellBegun allDigits
-    decimalValue calls.decode decoding.decode evaluate coefficients newestFirst subtract insert fresh each powerMod powerWithin
-examples = (refl, refl, refl, refl, refl, refl, refl, refl, refl, refl, refl, refl, refl, refl)
+    × Gives "threshold=1\nlog=9\nlog=7\ngot=9\ngot=7\ngot=9\n" "refusal=0\nthreshold=1\ncount=-1\nfound=2\nsurplus=9\nsurplus=9\n"
+    × Gives "threshold=2\ngot=10\ngot=2\n" "refusal=0\nthreshold=2\ncount=-2\nfound=2\nsurplus=10\nsurplus=2\n"
+    × Gives "threshold=1\ngot=10\ngot=2\n" "refusal=4\n"
+    × Gives "threshold=2\nlog=1\ngot=7\ngot=9\n" "refusal=0\nthreshold=2\ncount=-1\nfound=0\n"
+unfolding deskAnswer printed lines line signedLine decimal decimalWithin outcome decided readLines closed next cut inFront parsed keyed number wellBegun
+    allDigits decimalValue calls.decode calls.decodeSurplus decoding.decode surplus evaluate coefficients newestFirst signedCount negate subtract insert fresh
+    each powerMod powerWithin
+examples = (refl, refl, refl, refl, refl, refl, refl, refl, refl, refl, refl, refl, refl, refl, refl, refl, refl, refl)
 
 -- After 8,191 log lines the next is taken.
 pub last-log-line : (K : Kind) (T c : ℕ) (l : List ℕ) → length l ≡ 8191 → next K (logs T l) (log c) ≡ logs T (l ++ (c ∷ []))
@@ -198,6 +215,16 @@ last-log-line K T c l e = rw (lt-ltb (length l) mostLines (omega arith))
 pub one-log-line-more : (K : Kind) (T c : ℕ) (l : List ℕ) → length l ≡ 8192 → next K (logs T l) (log c) ≡ stopped 10
 unfolding next
 one-log-line-more K T c l e = rw (le-ltb (length l) mostLines (omega arith))
+
+-- After 8,191 got lines the next is taken.
+pub last-got-line : (K : Kind) (T c : ℕ) (l g : List ℕ) → length g ≡ 8191 → next K (gots T l g) (got c) ≡ gots T l (g ++ (c ∷ []))
+unfolding next
+last-got-line K T c l g e = rw (lt-ltb (length g) mostLines (omega arith))
+
+-- After 8,192 got lines the next is refused by 10.
+pub one-got-line-more : (K : Kind) (T c : ℕ) (l g : List ℕ) → length g ≡ 8192 → next K (gots T l g) (got c) ≡ stopped 10
+unfolding next
+one-got-line-more K T c l g e = rw (le-ltb (length g) mostLines (omega arith))
 
 -- A subtraction keeps no last code.
 pub subtraction-keeps-no-last : (K : Kind) (s o : Sketch) → subtract K s o .last ≡ nothing

@@ -8,11 +8,12 @@ use native.Mathlib.Nat.{pow-suc, pow-zero, mul-suc}
 use native.Mathlib.Numerals.{add-one}
 use native.Mathlib.Omega.{arith}
 use lib.Dec.{ltb}
+use lib.IntN.{ℤ, pos, negsuc, natAbs}
 use lib.ListN.{length, getD, take, drop, length-append, take-append-drop}
 use lib.Seq.{take-suc}
 use borrow.Author.Tests.{lt-ltb, le-ltb, ltb-true, ltb-false}
 use Rattle.newton.specs.Members.{AllBelow}
-use Rattle.desk_rules.specs.Text.{lastDigit, decimalWithin, decimal, line, lines}
+use Rattle.desk_rules.specs.Text.{lastDigit, decimalWithin, decimal, line, minusSign, signedLine, lines}
 
 -- ---- the digits of a number
 
@@ -79,6 +80,12 @@ lines-part word xs i =
 -- A number of at most twenty digits.
 pub line-short : (word : List ℕ) (n : ℕ) → n < 10 ^ 20 → length (line word n) ≤ length word + 21
 line-short word n u = omega (arith, line-length word n, decimal-short 19 n u)
+
+-- A signed number whose size has at most twenty digits: the minus sign is one byte more.
+pub signed-short : (word : List ℕ) (z : ℤ) → natAbs z < 10 ^ 20 → length (signedLine word z) ≤ length word + 22
+unfolding signedLine
+signed-short word (pos n) u = omega (arith, line-short word n u)
+signed-short word (negsuc n) u = omega (arith, line-short (word ++ (minusSign ∷ [])) (suc n) u, length-append word (minusSign ∷ []))
 
 -- Lines of such numbers have at most 21 bytes each beside the word.
 pub lines-short : (word xs : List ℕ) → AllBelow (10 ^ 20) xs → length (lines word xs) ≤ (length word + 21) * length xs

@@ -5,12 +5,13 @@ use mathlib.Core.Path.{_≡_, refl, sym, ap, _∙_}
 use mathlib.Core.List.{List, [], _∷_, _++_}
 use native.Mathlib.Omega.{arith}
 use lib.Dec.{lit<, lit≤}
+use lib.IntN.{pos}
 use lib.ListN.{length, replicate, length-replicate}
 use Rattle.numbers.specs.Table.{every}
 use Rattle.rules.specs.Kind.{kind32}
 use Rattle.rules.specs.Sketch as sketch
 use Rattle.rules.specs.Calls.{given}
-use Rattle.rules.specs.History.{fresh, insert, Leaves}
+use Rattle.rules.specs.History.{Leaves}
 use Rattle.desk_rules.specs.Lines.{bytesOf, thresholdWord}
 use Rattle.desk_rules.specs.Desk.{gots, outcome}
 use Rattle.desk_rules.specs.Text.{decimal, refusalWord, countWord, foundWord, missingWord, line, lines, deskAnswer}
@@ -42,7 +43,7 @@ castle-at-the-limit = record {
 }
 
 -- The prime is printed in ten digits.
-digits-of-prime : decimal 4294967291 ≡ bytesOf "4294967291"
+pub digits-of-prime : decimal 4294967291 ≡ bytesOf "4294967291"
 digits-of-prime =
     rw (
       decimal-digits 4294967291 (lit≤ tt),
@@ -124,5 +125,5 @@ leaves-at-the-limit = record {
 }
 
 -- What its lines come to.
-pub missing-witness : outcome kind32 (gots 2 logged gotten) ≡ given (record { threshold = 2; count = 2; found = 7 ∷ 7 ∷ 7 ∷ [] })
+pub missing-witness : outcome kind32 (gots 2 logged gotten) ≡ given (record { threshold = 2; count = pos 2; found = 7 ∷ 7 ∷ 7 ∷ [] })
 missing-witness = missing-exact kind32 2 logged gotten 2 leaves-at-the-limit

@@ -1,11 +1,14 @@
--- What the lines of the desk program's input amount to: the first bad line decides, and after good lines the log is decoded.
+-- What the lines of the desk program's input amount to: the first bad line decides, and after good lines the log is decoded, or the got codes where they
+-- are more.
 -- Assumes nothing.
 use Prim.Native.Nat.{ℕ}
 use mathlib.Core.Bool.{true, cond}
 use mathlib.Core.List.{List, [], _∷_, _++_, foldl}
 use lib.Dec.{ltb}
+use lib.IntN.{ℤ, pos, negsuc}
 use lib.ListN.{length}
 use Rattle.rules.specs.Kind.{Kind}
+use Rattle.rules.specs.Signed.{signedCount}
 use Rattle.rules.specs.Sketch.{Sketch, inRange, fresh, insert, subtract}
 use Rattle.rules.specs.Calls as calls
 use Rattle.rules.specs.Calls.{Outcome, refused, given}
@@ -13,7 +16,7 @@ use Rattle.desk_rules.specs.Lines.{Line, threshold, log, got, bad, parse
 
 -- ---- the lines, one after the other
 
--- How many log lines an input may have: the next is refused by 10.
+-- How many log lines an input may have, and how many got lines: the next is refused by 10.
 abbrev pub mostLines : ℕ
 mostLines = 8192
 
@@ -36,7 +39,7 @@ next K (logs T l) (got c) = gots T l (c ∷ [])
 next K (logs T l) bad = stopped 9
 next K (gots T l g) (threshold c) = stopped 9
 next K (gots T l g) (log c) = stopped 9
-next K (gots T l g) (got c) = gots T l (g ++ (c ∷ []))
+next K (gots T l g) (got c) = cond (ltb (length g) mostLines) (gots T l (g ++ (c ∷ []))) (stopped 10)
 next K (gots T l g) bad = stopped 9
 next K (stopped n) line = stopped n
 
@@ -63,25 +66,31 @@ readLines K t = closed (allLines K unbegun (t .whole)) (t .rest)
 abbrev pub sketchOfCodes : Kind → ℕ → List ℕ → Sketch
 sketchOfCodes K T = foldl (insert K) (fresh T)
 
--- What is told of an input that is not refused.
+-- What is told of an input that is not refused: the threshold, the signed count, and the entries found, which are missing or, for a negative count, surplus.
 pub record Report : Type 0 where
   pub threshold : ℕ
-  pub count : ℕ
+  pub count : ℤ
   pub found : List ℕ
 
 -- The report of the entries found, or the refusal.
-abbrev pub reported : ℕ → ℕ → Outcome (List ℕ) → Outcome Report
+abbrev pub reported : ℕ → ℤ → Outcome (List ℕ) → Outcome Report
 reported T count (refused n) = refused n
 reported T count (given found) = given (record { threshold = T; count = count; found = found })
 
--- The log is decoded by the sketch of the log lines less that of the got lines, into as many places as it has entries; 4 where the count is above the
--- threshold.
-unfoldable pub decided : Kind → ℕ → List ℕ → Sketch → Outcome Report
-decided K T l s = reported T (s .count) (calls.decode K true s l (length l))
+-- What is listed with a signed count: of a negative one the surplus among the got codes, of any other what is missing of the log; each into as many places
+-- as there are entries.
+abbrev pub listedFor : Kind → ℤ → List ℕ → List ℕ → Sketch → Outcome (List ℕ)
+listedFor K (pos n) l g s = calls.decode K true s l (length l)
+listedFor K (negsuc n) l g s = calls.decodeSurplus K true s g (length g)
 
--- What an input comes to: the refusal by its first bad line, or what decoding its log gives.
+-- The log or the got codes are decoded by the sketch of the log lines less that of the got lines; 4 where the size of the signed count is above the
+-- threshold.
+unfoldable pub decided : Kind → ℕ → List ℕ → List ℕ → Sketch → Outcome Report
+decided K T l g s = reported T (signedCount (s .count)) (listedFor K (signedCount (s .count)) l g s)
+
+-- What an input comes to: the refusal by its first bad line, or what decoding gives.
 unfoldable pub outcome : Kind → Seen → Outcome Report
 outcome K unbegun = refused 9
-outcome K (logs T l) = decided K T l (subtract K (sketchOfCodes K T l) (sketchOfCodes K T []))
-outcome K (gots T l g) = decided K T l (subtract K (sketchOfCodes K T l) (sketchOfCodes K T g))
+outcome K (logs T l) = decided K T l [] (subtract K (sketchOfCodes K T l) (sketchOfCodes K T []))
+outcome K (gots T l g) = decided K T l g (subtract K (sketchOfCodes K T l) (sketchOfCodes K T g))
 outcome K (stopped n) = refused n

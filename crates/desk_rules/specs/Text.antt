@@ -4,6 +4,7 @@ use Prim.Native.Nat.{ℕ, zero, suc, _+_, _/_, _%_}
 use mathlib.Core.Bool.{cond}
 use mathlib.Core.List.{List, [], _∷_, _++_}
 use lib.Dec.{ltb}
+use lib.IntN.{ℤ, pos, negsuc}
 use lib.ListN.{length}
 use Rattle.rules.specs.Kind.{Kind}
 use Rattle.rules.specs.Calls.{Outcome, refused, given}
@@ -40,13 +41,31 @@ countWord = bytesOf "count="
 abbrev pub foundWord : List ℕ
 foundWord = bytesOf "found="
 
--- The word of the line for each entry found.
+-- The word of the line for each entry that is missing.
 abbrev pub missingWord : List ℕ
 missingWord = bytesOf "missing="
+
+-- The word of the line for each code that is surplus.
+abbrev pub surplusWord : List ℕ
+surplusWord = bytesOf "surplus="
+
+-- The word of the lines for the entries found, by the signed count: surplus where it is negative.
+abbrev pub entryWord : ℤ → List ℕ
+entryWord (pos n) = missingWord
+entryWord (negsuc n) = surplusWord
 
 -- A word, a number, and one LF.
 unfoldable pub line : List ℕ → ℕ → List ℕ
 line word n = word ++ (decimal n ++ (LF ∷ []))
+
+-- The byte in front of the digits of a negative number.
+abbrev pub minusSign : ℕ
+minusSign = 45
+
+-- A word, a signed number, and one LF: a negative number is a minus sign and the digits of its size.
+unfoldable pub signedLine : List ℕ → ℤ → List ℕ
+signedLine word (pos n) = line word n
+signedLine word (negsuc n) = line (word ++ (minusSign ∷ [])) (suc n)
 
 -- One line for each number of a list, in its order.
 unfoldable pub lines : List ℕ → List ℕ → List ℕ
@@ -55,12 +74,13 @@ lines word (x ∷ xs) = line word x ++ lines word xs
 
 -- ---- the answer
 
--- A refusal is the whole answer; otherwise the threshold, the count, how many entries are found, and each of them.
+-- A refusal is the whole answer; otherwise the threshold, the signed count, how many entries are found, and each of them.
 unfoldable pub printed : Outcome Report → List ℕ
 printed (refused n) = line refusalWord n
 printed (given r) =
     line refusalWord 0
-    ++ (line thresholdWord (r .threshold) ++ (line countWord (r .count) ++ (line foundWord (length (r .found)) ++ lines missingWord (r .found))))
+    ++ (line thresholdWord (r .threshold)
+    ++ (signedLine countWord (r .count) ++ (line foundWord (length (r .found)) ++ lines (entryWord (r .count)) (r .found))))
 
 -- The program's whole output for a whole input.
 unfoldable pub deskAnswer : Kind → List ℕ → List ℕ

@@ -1,22 +1,24 @@
 -- The writer's laws: texts stored one behind the other, and the loops that store them.
 -- Assumes nothing.
-use Prim.Native.Nat.{ℕ, suc, _+_, _*_, _/_, _≤_, _<_, zero-le}
+use Prim.Native.Nat.{ℕ, zero, suc, _+_, _*_, _/_, _≤_, _<_, zero-le}
 use mathlib.Core.Path.{_≡_, refl, ap, sym, _∙_}
 use mathlib.Core.List.{List, [], _∷_, _++_}
 use native.Mathlib.Nat.{add-zero}
 use native.Mathlib.Numerals.{add-one}
 use native.Mathlib.Omega.{arith}
+use lib.IntN.{ℤ}
 use lib.ListN.{length, getD, take, drop, set, length-append}
 use lib.Seq.{take-suc, take-all, length-take-le, sets, sets-eq, length-sets}
 use borrow.Author.Tests.{le-leb, lt-leb}
 use Rattle.rules.specs.Calls.{Outcome, refused, given, written, fitting}
 use Rattle.desk_rules.specs.Lines.{thresholdWord}
-use Rattle.desk_rules.specs.Text.{decimal, refusalWord, countWord, foundWord, missingWord, line, lines, printed}
+use Rattle.desk_rules.specs.Text.{decimal, refusalWord, countWord, foundWord, minusSign, entryWord, missingWord, surplusWord, line, signedLine, lines}
+use Rattle.desk_rules.specs.Text.{printed}
 use Rattle.desk_rules.proofs.Text.{decimal-digit, decimal-digits, decimal-short, lines-more, lines-part}
 use Rattle.lent.specs.declared.Number.{Number}
 use Rattle.lent.specs.Answers.{numbered, counted}
 use Rattle.lent.proofs.Lists.{refusal, listing}
-use Rattle.desk_text.specs.Writer.{Put, foundText, Within}
+use Rattle.desk_text.specs.Writer.{Put, countFrom, foundText, Within}
 
 -- ---- texts one behind the other
 
@@ -172,13 +174,42 @@ module _ {before : List ℕ} {at : ℕ} {word list : List ℕ} where
         let u : length list ≤ i = omega arith in
         put-as (s .so-far) (ap (lines word) (take-all i list u))
 
+-- ---- the count's line, and the word of the entries
+
+module _ (below above : ℕ) where
+  -- A count that is not below zero.
+  pub count-above : below ≡ 0 → signedLine countWord (countFrom below above) ≡ line countWord above
+  unfolding signedLine
+  count-above e = rw e
+
+  -- One that is.
+  pub count-below : (below ≡ 0 → ⊥) → signedLine countWord (countFrom below above) ≡ line (countWord ++ (minusSign ∷ [])) below
+  unfolding signedLine
+  count-below = by-number below
+    where
+      by-number : (n : ℕ) → (n ≡ 0 → ⊥) → signedLine countWord (countFrom n above) ≡ line (countWord ++ (minusSign ∷ [])) n
+      by-number zero some = absurd (some refl)
+      by-number (suc k) some = refl
+
+  -- Entries with a count that is not below zero are missing.
+  pub word-above : below ≡ 0 → entryWord (countFrom below above) ≡ missingWord
+  word-above e = rw e
+
+  -- Otherwise they are surplus.
+  pub word-below : (below ≡ 0 → ⊥) → entryWord (countFrom below above) ≡ surplusWord
+  word-below = by-number below
+    where
+      by-number : (n : ℕ) → (n ≡ 0 → ⊥) → entryWord (countFrom n above) ≡ surplusWord
+      by-number zero some = absurd (some refl)
+      by-number (suc k) some = refl
+
 -- ---- the text of an answer that is no refusal: four lines, and the list's
 
-module _ (threshold count : ℕ) (found : List ℕ) where
+module _ (threshold : ℕ) (count : ℤ) (found : List ℕ) where
   -- Its length, part by part.
   pub found-length : length (foundText threshold count found)
-      ≡ length (line refusalWord 0) + length (line thresholdWord threshold) + length (line countWord count) + length (line foundWord (length found))
-      + length (lines missingWord found)
+      ≡ length (line refusalWord 0) + length (line thresholdWord threshold) + length (signedLine countWord count) + length (line foundWord (length found))
+      + length (lines (entryWord count) found)
   unfolding printed
   found-length = simp length-append (omega arith)
 
@@ -194,22 +225,23 @@ module _ (threshold count : ℕ) (found : List ℕ) where
 
       module _ {out₂ : List ℕ} {end₂ : ℕ} (p₂ : Put out₁ end₁ (line thresholdWord threshold) out₂ end₂) where
         -- There is room for the third where the second ends.
-        pub room-count : end₂ + length (line countWord count) ≤ length out₂
+        pub room-count : end₂ + length (signedLine countWord count) ≤ length out₂
         room-count = omega (arith, found-length, p₁ .ends, put-length p₁, p₂ .ends, put-length p₂)
 
-        module _ {out₃ : List ℕ} {end₃ : ℕ} (p₃ : Put out₂ end₂ (line countWord count) out₃ end₃) where
+        module _ {out₃ : List ℕ} {end₃ : ℕ} (p₃ : Put out₂ end₂ (signedLine countWord count) out₃ end₃) where
           -- There is room for the fourth where the third ends.
           pub room-found : end₃ + length (line foundWord (length found)) ≤ length out₃
           room-found = omega (arith, found-length, p₁ .ends, put-length p₁, p₂ .ends, put-length p₂, p₃ .ends, put-length p₃)
 
           module _ {out₄ : List ℕ} {end₄ : ℕ} (p₄ : Put out₃ end₃ (line foundWord (length found)) out₄ end₄) where
             -- There is room for the list's lines where the fourth ends.
-            pub room-missing : end₄ + length (lines missingWord found) ≤ length out₄
-            room-missing =
+            pub room-entries : end₄ + length (lines (entryWord count) found) ≤ length out₄
+            room-entries =
                 omega (arith, found-length, p₁ .ends, put-length p₁, p₂ .ends, put-length p₂, p₃ .ends, put-length p₃, p₄ .ends, put-length p₄)
 
             -- All five parts, one behind the other.
-            pub all-put : {out₅ : List ℕ} {end₅ : ℕ} → Put out₄ end₄ (lines missingWord found) out₅ end₅ → Put out 0 (foundText threshold count found) out₅ end₅
+            pub all-put : {out₅ : List ℕ} {end₅ : ℕ} → Put out₄ end₄ (lines (entryWord count) found) out₅ end₅
+                → Put out 0 (foundText threshold count found) out₅ end₅
             unfolding printed
             all-put p₅ = put-then p₁ (put-then p₂ (put-then p₃ (put-then p₄ p₅)))
 

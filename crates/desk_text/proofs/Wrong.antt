@@ -1,17 +1,18 @@
--- Two wrong answers of each call, into a buffer of 20 bytes: the refusal as a number and not as text, and no byte written.
+-- Two wrong answers of each call, into a buffer of 20 bytes: the refusal as a number and not as text, and no byte written. And two to a surplus: the refusal
+-- by 4, and a count without its minus sign.
 -- Assumes nothing.
 use Prim.Native.Nat.{ℕ, _≤_}
-use mathlib.Core.Path.{_≡_, refl, _∙_, ap, ap₂}
-use mathlib.Core.List.{List, []}
+use mathlib.Core.Path.{_≡_, refl, sym, _∙_, ap, ap₂}
+use mathlib.Core.List.{List, [], _∷_, _++_}
 use lib.Dec.{lit≤}
-use lib.ListN.{length, replicate}
+use lib.ListN.{length, getD, replicate}
 use contract.Lifetimes.{Lfts}
 use denote.Ref.{RefT, now}
 use Rattle.rules.specs.Kind.{kind32}
-use Rattle.rules.specs.Calls.{refused, fitting}
+use Rattle.rules.specs.Calls.{Outcome, refused, given, written, fitting}
 use Rattle.desk_rules.specs.Lines.{bytesOf}
 use Rattle.desk_rules.specs.Text.{deskAnswer}
-use Rattle.rules.specs.Determines.{RefusesBoth}
+use Rattle.rules.specs.Determines.{RefusesBoth, RefusesEither}
 use Rattle.desk_rules.proofs.Desk.{examples}
 use Rattle.rules.proofs.Determined.{differs}
 use Rattle.lent.specs.declared.Number.{Number}
@@ -45,11 +46,42 @@ module _ (κs : Lfts 2) (input out input₁ out₁ : RefT (List ℕ)) (the-input
   pub answer-wrong : RefusesBoth Allowed (numbered (refused 1)) (counted 0)
   answer-wrong = ten-only ten-bytes
 
+-- The answer to two got codes without a log line, into a buffer as long as it.
+module _ (κs : Lfts 2) (input out input₁ : RefT (List ℕ)) (the-input : now input ≡ bytesOf "threshold=2\ngot=10\ngot=2\n")
+    (lent : now out ≡ replicate 60 0) where
+  -- What the contract of `answer` allows.
+  abbrev AllowedSurplus : Number → RefT (List ℕ) → Type 0
+  AllowedSurplus n out₁ = answer.Post κs (input, (out, tt)) n (input₁, (out₁, tt))
+
+  -- What it comes to.
+  surplus-told : fitting (deskAnswer kind32 (now input)) (length (now out))
+      ≡ given (bytesOf "refusal=0\nthreshold=2\ncount=-2\nfound=2\nsurplus=10\nsurplus=2\n")
+  surplus-told =
+      ap₂ (λ (i o : List ℕ). fitting (deskAnswer kind32 i) (length o)) the-input lent ∙ ap (λ (text : List ℕ). fitting text 60) (examples .15)
+
+  -- The answer is sixty bytes long.
+  sixty-bytes : (n : Number) (out₁ : RefT (List ℕ)) → AllowedSurplus n out₁ → n ≡ counted 60
+  sixty-bytes n out₁ p = p .0 ∙ ap numbered surplus-told
+
+  -- They are these.
+  sixty-are : (n : Number) (out₁ : RefT (List ℕ)) → AllowedSurplus n out₁
+      → now out₁ ≡ bytesOf "refusal=0\nthreshold=2\ncount=-2\nfound=2\nsurplus=10\nsurplus=2\n"
+  sixty-are n out₁ p = p .1 .0 ∙ ap₂ (λ (o : Outcome (List ℕ)) (l : List ℕ). written o l) surplus-told lent
+
+  -- `answer` allows neither the refusal by 4 nor the count without its minus sign.
+  pub surplus-wrong : RefusesEither AllowedSurplus (numbered (refused 4))
+      (bytesOf "refusal=0\nthreshold=2\ncount=2\nfound=2\nsurplus=10\nsurplus=2\n" ++ (0 ∷ []))
+  surplus-wrong = (
+    λ out₁ p. differs (λ (n : Number). n .refusal) (numbered (refused 4)) refl (sixty-bytes _ out₁ p),
+    λ n out₁ e p. differs (λ (l : List ℕ). getD l 28 0) _ refl (sym e ∙ sixty-are n out₁ p),
+  )
+
 -- The answer to no input.
-module _ (κs : Lfts 2) (r : Reading) (log out log₁ out₁ : RefT (List ℕ)) (begun : Read the-calls [] r (now log)) (lent : now out ≡ replicate 20 0) where
+module _ (κs : Lfts 3) (r : Reading) (log got out log₁ got₁ out₁ : RefT (List ℕ)) (begun : Read the-calls [] r (now log) (now got))
+    (lent : now out ≡ replicate 20 0) where
   -- What the contract of `finish` allows.
   abbrev AllowedAtEnd : Number → Type 0
-  AllowedAtEnd n = finish.Post κs (r, (log, (out, tt))) n (r, (log₁, (out₁, tt)))
+  AllowedAtEnd n = finish.Post κs (r, (log, (got, (out, tt)))) n (r, (log₁, (got₁, (out₁, tt))))
 
   -- The buffer is long enough.
   room : length (deskAnswer kind32 []) ≤ length (now out)
@@ -57,7 +89,7 @@ module _ (κs : Lfts 2) (r : Reading) (log out log₁ out₁ : RefT (List ℕ)) 
 
   -- The answer is ten bytes long.
   ten-at-end : (n : Number) → AllowedAtEnd n → n ≡ counted 10
-  ten-at-end n p = answered κs log out log₁ out₁ begun p room .0 ∙ ap (λ (text : List ℕ). counted (length text)) (examples .3)
+  ten-at-end n p = answered κs log got out log₁ got₁ out₁ begun p room .0 ∙ ap (λ (text : List ℕ). counted (length text)) (examples .3)
 
   -- `finish` allows neither wrong answer.
   pub finish-wrong : RefusesBoth AllowedAtEnd (numbered (refused 1)) (counted 0)

@@ -5,8 +5,8 @@ ghost use lib.ListN.{length};
 ghost use Rattle.lent.specs.Answers.{numbered};
 ghost use Rattle.rules.specs.Calls.{written, fitting};
 ghost use Rattle.desk_rules.specs.Desk.{mostLines};
-ghost use Rattle.desk_rules.specs.Text.{lastDigit, decimal, line, lines};
-ghost use Rattle.desk_text.specs.Writer.{Put, refusedText, foundText};
+ghost use Rattle.desk_rules.specs.Text.{lastDigit, decimal, line, lines, countWord, signedLine, entryWord};
+ghost use Rattle.desk_text.specs.Writer.{Put, countFrom, refusedText, foundText};
 use lent::Number;
 
 fn last_digit(n: u64) -> u8
@@ -106,37 +106,85 @@ pub(crate) fn write_refused(out: &mut [u8], n: u32) -> Number
     Number::wrote(put_line(out, 0, b"refusal=", n as u64))
 }
 
-fn found_len(threshold: usize, count: u32, found: &[u32]) -> usize
+// The count's line: a minus sign and how many it is below zero, or else `above`.
+fn count_len(below: u32, above: u32) -> usize
+    ensures { λ r. ⌜ (r ≡ length (signedLine countWord (countFrom below above))) × (r ≤ 31) ⌝ }
+{
+    if below == 0 {
+        return line_len(b"count=", above as u64);
+    }
+    line_len(b"count=-", below as u64)
+}
+
+// The lines of the entries found: surplus ones where the count is below zero.
+fn entries_len(below: u32, above: u32, found: &[u32]) -> usize
     requires { ⌜ length (now found) ≤ mostLines ⌝ }
-    ensures { λ r. ⌜ r ≡ length (foundText threshold count (now (found .entry))) ⌝ }
+    ensures { λ r. ⌜ (r ≡ length (lines (entryWord (countFrom below above)) (now (found .entry)))) × (r ≤ 31 * mostLines) ⌝ }
+{
+    if below == 0 {
+        return lines_len(b"missing=", found);
+    }
+    lines_len(b"surplus=", found)
+}
+
+fn found_len(threshold: usize, below: u32, above: u32, found: &[u32]) -> usize
+    requires { ⌜ length (now found) ≤ mostLines ⌝ }
+    ensures { λ r. ⌜ r ≡ length (foundText threshold (countFrom below above) (now (found .entry))) ⌝ }
 {
     line_len(b"refusal=", 0)
         + line_len(b"threshold=", threshold as u64)
-        + line_len(b"count=", count as u64)
+        + count_len(below, above)
         + line_len(b"found=", found.len() as u64)
-        + lines_len(b"missing=", found)
+        + entries_len(below, above, found)
 }
 
-fn put_found(out: &mut [u8], threshold: usize, count: u32, found: &[u32]) -> usize
-    requires { ⌜ length (foundText threshold count (now found)) ≤ length (now out) ⌝ }
-    ensures { λ r. ⌜ Put (now (out .entry)) 0 (foundText threshold count (now (found .entry))) (now (out .exit)) r ⌝ }
+fn put_count(out: &mut [u8], at: usize, below: u32, above: u32) -> usize
+    requires { ⌜ at + length (signedLine countWord (countFrom below above)) ≤ length (now out) ⌝ }
+    ensures { λ r. ⌜ Put (now (out .entry)) at (signedLine countWord (countFrom below above)) (now (out .exit)) r ⌝ }
+{
+    if below == 0 {
+        return put_line(out, at, b"count=", above as u64);
+    }
+    put_line(out, at, b"count=-", below as u64)
+}
+
+fn put_entries(out: &mut [u8], at: usize, below: u32, above: u32, found: &[u32]) -> usize
+    requires { ⌜ at + length (lines (entryWord (countFrom below above)) (now found)) ≤ length (now out) ⌝ }
+    ensures { λ r. ⌜ Put (now (out .entry)) at (lines (entryWord (countFrom below above)) (now (found .entry))) (now (out .exit)) r ⌝ }
+{
+    if below == 0 {
+        return put_lines(out, at, b"missing=", found);
+    }
+    put_lines(out, at, b"surplus=", found)
+}
+
+fn put_found(out: &mut [u8], threshold: usize, below: u32, above: u32, found: &[u32]) -> usize
+    requires { ⌜ length (foundText threshold (countFrom below above) (now found)) ≤ length (now out) ⌝ }
+    ensures { λ r. ⌜ Put (now (out .entry)) 0 (foundText threshold (countFrom below above) (now (found .entry))) (now (out .exit)) r ⌝ }
 {
     let first = put_line(&mut *out, 0, b"refusal=", 0);
     let second = put_line(&mut *out, first, b"threshold=", threshold as u64);
-    let third = put_line(&mut *out, second, b"count=", count as u64);
+    let third = put_count(&mut *out, second, below, above);
     let fourth = put_line(&mut *out, third, b"found=", found.len() as u64);
-    put_lines(out, fourth, b"missing=", found)
+    put_entries(out, fourth, below, above, found)
 }
 
-// The text of an answer that is no refusal.
-pub(crate) fn write_found(out: &mut [u8], threshold: usize, count: u32, found: &[u32]) -> Number
+// The text of an answer that is no refusal. Its count is `below` below zero, and `above` where that is 0.
+pub(crate) fn write_found(
+    out: &mut [u8],
+    threshold: usize,
+    below: u32,
+    above: u32,
+    found: &[u32],
+) -> Number
     requires { ⌜ length (now found) ≤ mostLines ⌝ }
-    ensures answer { λ r. ⌜ r ≡ numbered (fitting (foundText threshold count (now (found .entry))) (length (now (out .entry)))) ⌝ }
+    ensures answer { λ r. ⌜ r ≡ numbered (fitting (foundText threshold (countFrom below above) (now (found .entry))) (length (now (out .entry)))) ⌝ }
     ensures text { λ r.
-        ⌜ now (out .exit) ≡ written (fitting (foundText threshold count (now (found .entry))) (length (now (out .entry)))) (now (out .entry)) ⌝ }
+        ⌜ now (out .exit)
+        ≡ written (fitting (foundText threshold (countFrom below above) (now (found .entry))) (length (now (out .entry)))) (now (out .entry)) ⌝ }
 {
-    if out.len() < found_len(threshold, count, found) {
+    if out.len() < found_len(threshold, below, above, found) {
         return Number::refused(5);
     }
-    Number::wrote(put_found(out, threshold, count, found))
+    Number::wrote(put_found(out, threshold, below, above, found))
 }

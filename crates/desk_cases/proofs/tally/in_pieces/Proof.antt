@@ -8,14 +8,14 @@ use Rattle.desk_cases.proofs.tally.in_pieces.Statement.{statement}
 use Rattle.desk_cases.proofs.tally.in_pieces.Tie as tie
 
 abbrev Inv-loop : tie.InvT-loop
-Inv-loop input expected size log₀ reading₀ at₀ log reading at = (at ≤ length input) × (8192 ≡ length log)
+Inv-loop input expected size log₀ got₀ reading₀ at₀ log got reading at = (at ≤ length input) × (8192 ≡ length log) × (8192 ≡ length got)
 
 abbrev μ-loop : tie.MeasureT-loop
-μ-loop input expected size log₀ reading₀ at₀ log reading at = length input - at
+μ-loop input expected size log₀ got₀ reading₀ at₀ log got reading at = length input - at
 
 pub in-pieces-spec : {M : Type 1} → statement M
 in-pieces-spec =
     tie.close
     (tie.spec Inv-loop μ-loop (λ c κs. tt) (λ c. search needs) (λ c. search needs) (λ c κs. tt) (λ c. search needs) (λ c. search needs)
-    (λ c. search needs) (λ c. search needs) (λ c. search needs) (λ c κs. tt) (λ c. search needs) (λ c. search needs) (λ c κs. tt) (λ c. search needs)
-    (λ c. search needs) (λ c κs. tt) (λ c. search needs) (λ c. search needs) (λ c κs. tt) (λ c. search needs))
+    (λ c. search needs) (λ c. search needs) (λ c. search needs) (λ c. search needs) (λ c κs. tt) (λ c. search needs) (λ c. search needs) (λ c κs. tt)
+    (λ c. search needs) (λ c. search needs) (λ c. search needs) (λ c κs. tt) (λ c. search needs) (λ c. search needs) (λ c κs. tt) (λ c. search needs))
