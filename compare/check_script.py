@@ -105,18 +105,30 @@ class Player:
     def eval_precompute(self, x, *coefficients):
         return [*second.eval_precompute(self.kind, coefficients, x)]
 
+    def signed_count(self, slot):
+        count = second.signed_count(self.kind, self.slots[slot])
+        return [int(count < 0), abs(count)]
 
-# The operations at every width. An operation's number is its place here, from 1, and what its width adds.
+    def negate(self, slot, to):
+        return self.store(to, self.on(second.negated, slot))
+
+    def decode_surplus_with_log(self, slot, room, fill, *got):
+        buffer = [fill] * room
+        return [*self.on(second.decode_surplus, slot, got, buffer), *buffer]
+
+
+# The operations. An operation's number is its place here, from 1, and what its width adds.
 OPERATIONS = ["new", "put", "well_formed", "insert", "remove", "sub_assign", "sub", "to_coeffs", "eval",
               "decode_with_log", "serialize", "serialize_with_hint", "deserialize", "field_reduce", "field_add",
-              "field_sub", "field_mul", "field_neg", "field_inv", "field_pow", "field_pow_multiplications"]
+              "field_sub", "field_mul", "field_neg", "field_inv", "field_pow", "field_pow_multiplications",
+              "eval_precompute", "signed_count", "negate", "decode_surplus_with_log"]
 
-# For each width its name, what it adds to numbers, its kind and its operations.
-WIDTHS = [("32 bits", 0, second.BITS32, OPERATIONS),
-          ("16 bits", 100, second.BITS16, [*OPERATIONS, "eval_precompute"])]
+# For each width its name, what it adds to numbers, its kind and the operations that it lacks.
+WIDTHS = [("32 bits", 0, second.BITS32, {"eval_precompute"}),
+          ("16 bits", 100, second.BITS16, set())]
 
 # The operations whose first answer is a refusal.
-REFUSING = {"new", *OPERATIONS[3:13], "eval_precompute"}
+REFUSING = {"new", *OPERATIONS[3:13], "eval_precompute", "negate", "decode_surplus_with_log"}
 
 
 class Replay:
@@ -125,11 +137,12 @@ class Replay:
     def __init__(self):
         self.methods, self.names = {}, {}
         self.made, self.refusals, self.differences = Counter(), Counter(), 0
-        for width, added, kind, operations in WIDTHS:
+        for width, added, kind, lacking in WIDTHS:
             player = Player(kind)
-            for number, operation in enumerate(operations, added + 1):
-                self.methods[number] = getattr(player, operation)
-                self.names[number] = f"{operation}, {width}"
+            for number, operation in enumerate(OPERATIONS, added + 1):
+                if operation not in lacking:
+                    self.methods[number] = getattr(player, operation)
+                    self.names[number] = f"{operation}, {width}"
 
     def run(self, line):
         """Replays one line."""

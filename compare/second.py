@@ -265,6 +265,35 @@ def decode(s, log, buffer):
     return 0, len(found)
 
 
+# ---- Surplus pieces in the bag
+
+
+def signed(count):
+    """The count as a signed 32-bit difference: below 2147483648 it is itself, otherwise the count minus 4294967296."""
+    return count if count < 2147483648 else count - 4294967296
+
+
+def negated(s):
+    """Sums modulo the prime, count modulo 2^32, no last code."""
+    if not well_formed(s):
+        return 12, s
+    sums = [-one % s.kind.modulus for one in s.sums()]
+    return 0, Sketch(s.kind, s.threshold, filled(s.kind, sums), -s.count % COUNTS, None)
+
+
+def decode_surplus(s, got, buffer):
+    """If the signed count is negative, the negated sketch decodes the log of got codes; a count of 0 or more gives an
+    empty list and never 4. The check order is that of decoding."""
+    if not well_formed(s):
+        return 12, 0
+    surplus = max(0, -signed(s.count))
+    if surplus > s.threshold:
+        return 4, 0
+    if len(buffer) < len(got):
+        return 5, 0
+    return (0, 0) if surplus == 0 else decode(negated(s)[1], got, buffer)
+
+
 # ---- The packet
 
 
@@ -327,6 +356,11 @@ def head_words(kind):
     return 3 + kind.count_words
 
 
+def count_in(kind, words):
+    """The count that the words behind the threshold say, its lowest part first."""
+    return sum(part * kind.codes() ** k for k, part in enumerate(words[1:1 + kind.count_words]))
+
+
 def sketch_in(kind, words):
     """The sketch of threshold T that the first words say: the threshold, the count, its lowest part first, 1 and the
     last code or 0 and 0, the T sums. None where they say none, or are fewer than these, or than those before the sums.
@@ -334,15 +368,19 @@ def sketch_in(kind, words):
     head = head_words(kind)
     if len(words) < head:
         return None
-    threshold, *parts, mark, last = words[:head]
+    threshold, *_, mark, last = words[:head]
     if len(words) < head + threshold:
         return None
     if (mark, last) != (0, 0) and mark != 1:
         return None
-    count = sum(part * kind.codes() ** k for k, part in enumerate(parts))
     sums = words[head:head + threshold]
-    s = Sketch(kind, threshold, filled(kind, sums), count, last if mark == 1 else None)
+    s = Sketch(kind, threshold, filled(kind, sums), count_in(kind, words), last if mark == 1 else None)
     return s if well_formed(s) else None
+
+
+def signed_count(kind, words):
+    """The signed count that words say, of a sketch or not; 0 where they are fewer than those before the sums."""
+    return 0 if len(words) < head_words(kind) else signed(count_in(kind, words))
 
 
 def words_of(s):
@@ -379,7 +417,8 @@ def both_on_words(kind, call, words, rhs):
 
 # ---- The desk program
 
-LOG_LINES = 8192
+# The most log lines, and the most got lines.
+LINES = 8192
 GREATEST_NUMBER = 4294967295
 
 
@@ -399,6 +438,14 @@ def after_key(line, key):
     return decimal(line[len(start):]) if line.startswith(start) else None
 
 
+def kept(codes, code):
+    """Up to 8,192 codes are kept, and the next is refused by 10."""
+    if len(codes) == LINES:
+        return 10
+    codes.append(code)
+    return 0
+
+
 @dataclass
 class Desk:
     """What the good lines so far have said."""
@@ -416,15 +463,9 @@ class Desk:
             return make(BITS32, number)[0]
         number = after_key(line, b"log")
         if number is not None and not self.got:
-            if len(self.log) == LOG_LINES:
-                return 10
-            self.log.append(number)
-            return 0
+            return kept(self.log, number)
         number = after_key(line, b"got")
-        if number is None:
-            return 9
-        self.got.append(number)
-        return 0
+        return 9 if number is None else kept(self.got, number)
 
 
 def sketch_of(kind, threshold, codes):
@@ -452,12 +493,15 @@ def desk_answer(data):
     if refusal:
         return b"refusal=%d\n" % refusal
     s = sub_assign(sketch_of(BITS32, desk.threshold, desk.log), sketch_of(BITS32, desk.threshold, desk.got))[1]
-    buffer = list(desk.log)
-    refusal, found = decode(s, desk.log, buffer)
+    # For a negative count the signed count, the surplus lines and no missing ones.
+    count = signed(s.count)
+    call, codes, key = (decode, desk.log, b"missing") if count >= 0 else (decode_surplus, desk.got, b"surplus")
+    buffer = list(codes)
+    refusal, found = call(s, codes, buffer)
     if refusal:
         return b"refusal=%d\n" % refusal
-    head = b"refusal=0\nthreshold=%d\ncount=%d\nfound=%d\n" % (desk.threshold, s.count, found)
-    return head + b"".join(b"missing=%d\n" % code for code in buffer[:found])
+    head = b"refusal=0\nthreshold=%d\ncount=%d\nfound=%d\n" % (desk.threshold, count, found)
+    return head + b"".join(b"%s=%d\n" % (key, code) for code in buffer[:found])
 
 
 # ---- Cases from the bench
@@ -465,11 +509,22 @@ def desk_answer(data):
 # Each case is a name, what this program answers, and what the requirements say.
 
 
-def listed(s, log):
+def listed(s, log, call=decode):
     """What a decoding lists, or its refusal."""
     buffer = [0] * len(log)
-    refusal, n = decode(s, log, buffer)
+    refusal, n = call(s, log, buffer)
     return buffer[:n] if refusal == 0 else refusal
+
+
+def surplus_in(s, got):
+    """What a decoding of the surplus lists, or its refusal."""
+    return listed(s, got, decode_surplus)
+
+
+def into_sevens(call, s, codes, room):
+    """What a decoding answers, and a buffer of sevens after it."""
+    buffer = [7] * room
+    return call(s, codes, buffer), buffer
 
 
 def coefficients_of(s, room):
@@ -592,6 +647,83 @@ def word_cases(kind, start, grown):
     yield "words", both_on_words(kind, sub, start, start[:-1])[0], 12
 
 
+def signed_count_cases(kind):
+    """Counts at the edges as signed ones, with their surplus lists; and the signed counts of words, a sketch or not."""
+    p, head = kind.modulus, head_words(kind)
+    # Counts, what each is as a signed one, and what a sketch of it whose first sum is 1 lists, or the refusal.
+    edges = [(0, 0, []), (33, 33, []), (2147483647, 2147483647, []), (2147483648, -2147483648, 4),
+             (2147483649, -2147483647, 4), (4294967263, -33, 4), (4294967295, -1, [p - 1])]
+    for count, said, found in edges:
+        for threshold in (1, 2, 31, 32):
+            s = Sketch(kind, threshold, filled(kind, [1] * threshold), count, None)
+            answers = signed(count), signed_count(kind, words_of(s)), surplus_in(s, [1, p - 1])
+            yield "4/12 count", answers, (said, said, found)
+    words = words_of(Sketch(kind, 1, filled(kind, [0]), 4294967295, None))
+    counts = [signed_count(kind, words[:length]) for length in range(head + 2)]
+    yield "4/12 words", counts, [0] * head + [-1, -1]
+    spoilt = [kind.codes() - 1, *words[1:1 + kind.count_words], 5, p, p]
+    yield "4/12 words", (sketch_in(kind, spoilt), signed_count(kind, spoilt)), (None, -1)
+
+
+def surplus_cases(kind):
+    """P9 and P10 negated and decoded, an exact surplus list at the threshold, and one above it."""
+    p, greatest = kind.modulus, kind.codes() - 1
+    p9 = remove(make(kind, 1)[1], 1)[1]
+    yield "4/12 P9", (signed(p9.count), surplus_in(p9, [1, 2]), listed(p9, [1, 2])), (-1, [1], 4)
+    yield "4/12 P9", negated(p9)[1], Sketch(kind, 1, filled(kind, [1]), 1, None)
+    p10 = remove(sketch_of(kind, 2, [1]), 2)[1]
+    yield "4/12 P10", (signed(p10.count), surplus_in(p10, [1, 2])), (0, [])
+    yield "4/12 P10", negated(p10)[1], Sketch(kind, 2, filled(kind, [1, 3]), 0, None)
+    for s in (p9, p10):
+        yield "4/12 room", into_sevens(decode_surplus, s, [2, 1], 1), ((5, 0), [7])
+    yield "4/12 room", into_sevens(decode_surplus, p9, [2, 1], 3), ((0, 1), [1, 7, 7])
+    spoilt = Sketch(kind, 1, filled(kind, [p]), 4294967294, None)
+    orders = [into_sevens(decode_surplus, s, [2, 1], 1) for s in (remove(p9, 5)[1], spoilt)]
+    yield "4/12 order", orders, [((4, 0), [7]), ((12, 0), [7])]
+
+    kit, bag = sketch_of(kind, 3, [10]), sketch_of(kind, 3, [12, 10, 10, greatest])
+    s = sub_assign(kit, bag)[1]
+    got = [10, 12, greatest, 10, 12, greatest - p, 9]
+    yield "4/12 exact", (signed(s.count), surplus_in(s, got)), (-3, got[:-1])
+    yield "4/12 above", (surplus_in(remove(s, 5)[1], got), surplus_in(bag, got), listed(bag, got)), (4, [], 4)
+    yield "4/12 twice", negated(negated(bag)[1])[1], Sketch(kind, 3, bag.places, 4, None)
+
+
+def negated_word_cases(kind, start, said):
+    """The sketch of 10 and 12 negated into words: exactly as many, with others behind them, and too few."""
+    for behind in ([], [9, kind.modulus]):
+        out = [7] * len(said) + behind
+        yield "4/12 words", (to_words(on_words(kind, negated, start), out), out), (0, said + behind)
+    for length in range(len(said)):
+        out = [7] * length
+        refusals = [to_words(on_words(kind, negated, words), out) for words in (start, start[:length])]
+        yield "4/12 words", (refusals, out), ([5, 12], [7] * length)
+
+
+def desk_cases():
+    """The desk program's surplus lines, and the most got lines."""
+    def said(*lines):
+        return "".join(line + "\n" for line in lines).encode()
+
+    def answered(threshold, log, got):
+        lines = [f"threshold={threshold}", *(f"log={code}" for code in log), *(f"got={code}" for code in got)]
+        return desk_answer(said(*lines))
+
+    yield "4/12 desk", answered(2, [1, 2, 3, 4], [4, 9, 1, 2, 3, 7]), \
+        said("refusal=0", "threshold=2", "count=-2", "found=2", "surplus=9", "surplus=7")
+    yield "4/12 desk", answered(2, [1, 2, 3, 4], [1, 2, 3, 4, 4]), \
+        said("refusal=0", "threshold=2", "count=-1", "found=2", "surplus=4", "surplus=4")
+    yield "4/12 desk", answered(1, [], [4294967291]), \
+        said("refusal=0", "threshold=1", "count=-1", "found=1", "surplus=4294967291")
+    yield "4/12 desk", answered(2, [], [1, 2, 3]), said("refusal=4")
+    yield "4/12 desk", answered(2, [1, 2, 3], []), said("refusal=4")
+    yield "4/12 desk", answered(2, [1, 2], [2, 1]), said("refusal=0", "threshold=2", "count=0", "found=0")
+    most = said("threshold=1", *["got=5"] * 8192)
+    endings = [b"", b"got=5\n", b"got=05\n", b"log=5\n", b"got=5\nbad\n", b"bad\ngot=5\n", b"got=5"]
+    yield "4/12 desk", [desk_answer(most + ending) for ending in endings], \
+        [b"refusal=%d\n" % number for number in (4, 10, 9, 9, 10, 9, 9)]
+
+
 def cases_of(kind):
     """What the requirements say of every width alike."""
     full = sketch_of(kind, 32, range(1, 33))
@@ -614,11 +746,20 @@ def bench_cases():
     yield from sketch_cases_32()
     yield from cases_of(BITS32)
     yield from word_cases(BITS32, [3, 2, 1, 12, 22, 244, 2728], [3, 3, 1, 1, 23, 245, 2729])
+    yield from signed_count_cases(BITS32)
+    yield from surplus_cases(BITS32)
+    yield from negated_word_cases(BITS32, [3, 2, 1, 12, 22, 244, 2728],
+                                  [3, 4294967294, 0, 0, 4294967269, 4294967047, 4294964563])
+    yield from desk_cases()
     yield from field_cases_16()
     yield from sketch_cases_16()
     yield from single_reduction_cases()
     yield from cases_of(BITS16)
     yield from word_cases(BITS16, [3, 2, 0, 1, 12, 22, 244, 2728], [3, 3, 0, 1, 1, 23, 245, 2729])
+    yield from signed_count_cases(BITS16)
+    yield from surplus_cases(BITS16)
+    yield from negated_word_cases(BITS16, [3, 2, 0, 1, 12, 22, 244, 2728],
+                                  [3, 65534, 65535, 0, 0, 65499, 65277, 62793])
 
 
 def main():

@@ -7,8 +7,20 @@ use quack::{PowerSumQuack, PowerSumQuackU32, Quack};
 use std::hint::black_box;
 
 /// The works, in the order of their rows.
-pub const WORKS: &[Kind] =
-    &[insert, insert_divided, multiply, multiply_divided, remove, sub_assign, sub, coefficients, decode, write, read];
+pub const WORKS: &[Kind] = &[
+    insert,
+    insert_divided,
+    multiply,
+    multiply_divided,
+    remove,
+    sub_assign,
+    sub,
+    coefficients,
+    decode,
+    decode_surplus,
+    write,
+    read,
+];
 
 fn rust_sketch(threshold: usize, codes: &[u32]) -> PowerSumQuackU32 {
     let mut sketch = PowerSumQuackU32::new(threshold);
@@ -232,6 +244,41 @@ fn decode(n: usize, seed: u64) -> Work {
             let mut found = 0;
             for _ in 0..TIMES {
                 found = ours::decode_with_log(black_box(&words), black_box(&same), &mut buffer).value;
+            }
+            mixed(buffer[..found].iter().copied())
+        }),
+    }
+}
+
+/// Beside the Rust's parts: a fresh sketch less this one, decoded.
+fn decode_surplus(n: usize, seed: u64) -> Work {
+    const TIMES: usize = 10;
+    let got = codes(seed, LOG);
+    let surplus: Vec<u32> = got.iter().copied().step_by(LOG / n).take(n).collect();
+    let (fresh, mut sketch) = (PowerSumQuackU32::new(n), PowerSumQuackU32::new(n));
+    let mut words = our_sketch(n, &[]);
+    for &code in &surplus {
+        sketch.remove(code);
+        assert_eq!(ours::remove(&mut words, code), 0);
+    }
+    let same = got.clone();
+    let mut buffer = vec![0; LOG];
+    Work {
+        name: format!("32 bits, decode surplus of {LOG}, n {n}"),
+        calls: TIMES,
+        rust: Box::new(move || {
+            let mut found = vec![];
+            for _ in 0..TIMES {
+                let mut negated = fresh.clone();
+                negated.sub_assign(black_box(&sketch));
+                found = black_box(&negated).decode_with_log(black_box(&got));
+            }
+            mixed(found)
+        }),
+        ours: Box::new(move || {
+            let mut found = 0;
+            for _ in 0..TIMES {
+                found = ours::decode_surplus_with_log(black_box(&words), black_box(&same), &mut buffer).value;
             }
             mixed(buffer[..found].iter().copied())
         }),

@@ -1,8 +1,8 @@
 //! The rules of words, packets and coefficients, tried through: every threshold in slices of every length, and every
 //! fault that words can have, each given to every call on sketches as each of its arguments; packets of every length
-//! and with every fault; counts and pairs of counts at every edge; last codes and removed codes at every edge; every
-//! number of coefficients; products that leave next to nothing or next to the prime; and, at 16 bits, every code to
-//! each operation on one.
+//! and with every fault; counts and pairs of counts at every edge, as they are and as signed ones; last codes and removed
+//! codes at every edge; every number of coefficients; products that leave next to nothing or next to the prime; and, at
+//! 16 bits, every code to each operation on one.
 
 use crate::cases::COUNTS;
 use crate::op::{Op, LONGEST};
@@ -49,13 +49,26 @@ impl Sweep {
         words
     }
 
+    /// The words of a sketch with a count below 0, by up to one more than the threshold.
+    fn below_zero(&mut self, words: &[u32]) -> Vec<u32> {
+        let size = self.rng.range(1, words[THRESHOLD] as usize + 1) as u32;
+        let mut copy = words.to_vec();
+        self.width.put_count(&mut copy, size.wrapping_neg());
+        copy
+    }
+
+    /// Codes to look for.
+    fn sought(&self) -> Vec<u32> {
+        vec![0, CODE, self.width.modulus - 1]
+    }
+
     /// Every call that reads a sketch, on the words that are tried, with a buffer long enough and with none.
     fn readers(&self, threshold: usize) -> Vec<Op> {
         let slot = TRIED;
         let mut ops = vec![Op::WellFormed { slot }];
         for room in [0, self.width.packet_bytes(threshold)] {
             ops.push(Op::ToCoeffs { slot, room, fill: FILL });
-            ops.push(Op::Decode { slot, room, fill: FILL, log: vec![0, CODE, self.width.modulus - 1] });
+            ops.push(Op::Decode { slot, room, fill: FILL, log: self.sought() });
             ops.push(Op::Serialize { slot, room, fill: BYTE });
             ops.push(Op::SerializeWithHint { slot, hint: threshold / 2, room, fill: BYTE });
         }
@@ -72,11 +85,31 @@ impl Sweep {
         ops.push(Op::Remove { slot: TRIED, code: CODE });
         ops.push(Op::Sub { slot: TRIED, rhs: GOOD, to: RESULT });
         ops.push(Op::Sub { slot: GOOD, rhs: TRIED, to: RESULT });
+        ops.extend(self.surplus_readers());
         ops.push(Op::SubAssign { slot: TRIED, rhs: GOOD });
         ops.push(Op::SubAssign { slot: GOOD, rhs: TRIED });
         ops.extend([put(RESULT), Op::Sub { slot: GOOD, rhs: GOOD, to: RESULT }]);
         ops.extend([put(RESULT), Op::Deserialize { slot: RESULT, bytes }]);
         ops.extend([put(RESULT), Op::New { slot: RESULT, threshold }, Op::New { slot: RESULT, threshold: 0 }]);
+        ops
+    }
+
+    /// Every call on the surplus of the words that are tried, with a buffer long enough, exactly full, one short, and none.
+    fn surplus_readers(&self) -> Vec<Op> {
+        let (slot, got) = (TRIED, self.sought());
+        let rooms = [got.len() + 2, got.len(), got.len() - 1, 0];
+        let mut ops = vec![Op::SignedCount { slot }, Op::Negate { slot, to: RESULT }];
+        ops.extend(rooms.map(|room| Op::DecodeSurplus { slot, room, fill: FILL, got: got.clone() }));
+        ops
+    }
+
+    /// The same on words given anew, and a good sketch negated into the words as the place of its result.
+    fn surplus_calls(&self, good: &[u32], tried: &[u32]) -> Vec<Op> {
+        let put = |slot, words: &[u32]| Op::Put { slot, words: words.to_vec() };
+        let mut ops = vec![put(GOOD, good), put(TRIED, tried)];
+        ops.extend(self.surplus_readers());
+        ops.extend([put(RESULT, tried), Op::Negate { slot: GOOD, to: RESULT }]);
+        ops.push(Op::Decode { slot: RESULT, room: MOST_WORDS, fill: FILL, log: self.sought() });
         ops
     }
 
@@ -99,33 +132,40 @@ impl Sweep {
         let marks = [2, 3, 256, width.half(), greatest].map(|mark| with(&[(width.has_last(), mark)]));
         let lasts = [(0, 0), (0, 1), (0, p), (1, 0), (1, p - 1), (1, p), (1, greatest)]
             .map(|(mark, last)| with(&[(width.has_last(), mark), (width.last(), last)]));
-        let counts = [threshold, threshold + 1].into_iter().chain(COUNTS).map(of_count);
+        let near = [threshold, threshold + 1].into_iter().flat_map(|count| [count, count.wrapping_neg()]);
+        let counts = near.chain(COUNTS).map(of_count);
         let places =
             (width.sums()..words.len()).flat_map(|at| [p - 1, p, greatest].map(|number| with(&[(at, number)])));
         thresholds.into_iter().chain(marks).chain(lasts).chain(counts).chain(places).collect()
     }
 
-    /// Every threshold at every length, and every fault at some thresholds.
+    /// Every threshold at every length, and every fault at some thresholds; all again with a count below 0.
     fn words(&mut self) -> Vec<Op> {
         let mut ops = vec![Op::Put { slot: RESULT, words: vec![FILL; MOST_WORDS] }];
         for threshold in 1..=MAX_THRESHOLD {
             let (good, tried) = (self.sketch(threshold), self.sketch(threshold));
+            let (over, below) = (self.below_zero(&good), self.below_zero(&tried));
             for length in 0..=MOST_WORDS {
                 ops.extend(self.calls(&good, &tried[..length], threshold));
+                ops.extend(self.surplus_calls(&over, &below[..length]));
             }
         }
         for threshold in [1, 2, 20, MAX_THRESHOLD] {
             let (good, tried) = (self.sketch(threshold), self.sketch(threshold));
+            let (over, below) = (self.below_zero(&good), self.below_zero(&tried));
             for length in [self.width.words(threshold), self.width.words(threshold) + 2] {
                 for words in self.spoilt(&tried[..length]) {
                     ops.extend(self.calls(&good, &words, threshold));
+                }
+                for words in self.spoilt(&below[..length]) {
+                    ops.extend(self.surplus_calls(&over, &words));
                 }
             }
         }
         ops
     }
 
-    /// Each count at an edge taken past it both ways, and each minus each.
+    /// Each count at an edge taken past it both ways, and each minus each, and the calls on the surplus of what it is then.
     fn counts(&mut self) -> Vec<Op> {
         let words = self.sketch(2);
         let put = |slot, count| {
@@ -135,13 +175,38 @@ impl Sweep {
         };
         let mut ops = vec![Op::Put { slot: RESULT, words: words.clone() }];
         for left in COUNTS {
-            let (insert, remove) = (Op::Insert { slot: TRIED, code: CODE }, Op::Remove { slot: TRIED, code: 7 });
-            ops.extend([put(TRIED, left), insert.clone(), insert.clone(), insert]);
-            ops.extend([put(TRIED, left), remove.clone(), remove.clone(), remove]);
+            for step in [Op::Insert { slot: TRIED, code: CODE }, Op::Remove { slot: TRIED, code: CODE }] {
+                ops.push(put(TRIED, left));
+                for _ in 0..3 {
+                    ops.push(step.clone());
+                    ops.extend(self.surplus_readers());
+                }
+            }
             for right in COUNTS {
                 ops.extend([put(TRIED, left), put(GOOD, right), Op::Sub { slot: TRIED, rhs: GOOD, to: RESULT }]);
                 ops.push(Op::SubAssign { slot: TRIED, rhs: GOOD });
+                ops.extend(self.surplus_readers());
             }
+        }
+        ops
+    }
+
+    /// At every threshold, every number of codes that are surplus up to one above it, listed among others.
+    fn surplus(&mut self) -> Vec<Op> {
+        let (width, slot) = (self.width, TRIED);
+        let mut ops = vec![];
+        for (threshold, size) in
+            (1..=MAX_THRESHOLD).flat_map(|threshold| (0..=threshold + 1).map(move |n| (threshold, n)))
+        {
+            let codes: Vec<u32> = (0..size).map(|_| width.any(&mut self.rng)).collect();
+            let got: Vec<u32> = codes.iter().rev().flat_map(|&code| [code, code ^ 1]).chain([CODE]).collect();
+            let words = vec![FILL; width.words(threshold)];
+            ops.extend([slot, RESULT].map(|slot| Op::Put { slot, words: words.clone() }));
+            ops.push(Op::New { slot, threshold });
+            ops.extend(codes.iter().map(|&code| Op::Remove { slot, code }));
+            ops.extend([Op::SignedCount { slot }, Op::Negate { slot, to: RESULT }]);
+            ops.push(Op::DecodeSurplus { slot, room: got.len(), fill: FILL, got: got.clone() });
+            ops.push(Op::Decode { slot: RESULT, room: got.len(), fill: FILL, log: got });
         }
         ops
     }
@@ -281,6 +346,7 @@ pub fn sweep(width: &'static Width) -> Vec<Op> {
     let mut sweep = Sweep { width, rng: Rng::new(1) };
     let mut ops = [sweep.words(), sweep.counts(), sweep.packets(), sweep.coefficients(), sweep.products()].concat();
     ops.extend(sweep.last_codes());
+    ops.extend(sweep.surplus());
     if width.bits == 16 {
         ops.extend(sweep.every_code());
         ops.extend(sweep.every_code_in_and_out());

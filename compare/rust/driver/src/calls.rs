@@ -52,9 +52,12 @@ both! {
     fn remove(s: &mut [Self::Word], code: Self::Word) -> u32;
     fn sub_assign(s: &mut [Self::Word], rhs: &[Self::Word]) -> u32;
     fn sub(s: &[Self::Word], rhs: &[Self::Word], out: &mut [Self::Word]) -> u32;
+    fn negate(s: &[Self::Word], out: &mut [Self::Word]) -> u32;
+    fn signed_count(s: &[Self::Word]) -> i32;
     fn to_coeffs(s: &[Self::Word], coeffs: &mut [Self::Word]) -> Number;
     fn eval(coeffs: &[Self::Word], x: Self::Word) -> Value<Self::Word>;
     fn decode_with_log(s: &[Self::Word], log: &[Self::Word], out: &mut [Self::Word]) -> Number;
+    fn decode_surplus_with_log(s: &[Self::Word], got: &[Self::Word], out: &mut [Self::Word]) -> Number;
     fn serialize(s: &[Self::Word], buf: &mut [u8]) -> Number;
     fn serialize_with_hint(s: &[Self::Word], buf: &mut [u8], hint: usize) -> Number;
     fn deserialize(buf: &[u8], out: &mut [Self::Word]) -> u32;

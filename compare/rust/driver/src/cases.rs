@@ -1,7 +1,8 @@
 //! The operations that every run begins with: the cases P1 to P12 of the bench, its case without a number, the powers
 //! at the ends of their range, each threshold with a packet exactly full and one byte short, and sketches in slices of
-//! as many words as they have, of more, and of fewer; at 16 bits those of the second width, which are the same with its
-//! numbers, the value with one reduction, and counts that fill one word.
+//! as many words as they have, of more, and of fewer; counts at which something changes, as they are and as signed
+//! ones, with what is missing and what is surplus; at 16 bits those of the second width, which are the same with its
+//! numbers, and the value with one reduction.
 
 use crate::op::{Op, LONGEST};
 use crate::width::Width;
@@ -11,9 +12,26 @@ use ours::{MAX_THRESHOLD, THRESHOLD};
 const FILL: u32 = 7;
 const BYTE: u8 = 0xee;
 
-/// Counts at which something changes, at some width.
-pub const COUNTS: [u32; 13] =
-    [0, 1, 2, 31, 32, 33, 65534, 65535, 65536, (1 << 31) - 1, 1 << 31, u32::MAX - 1, u32::MAX];
+/// Counts at which something changes, at some width: of these below 0 as signed ones the last seven.
+pub const COUNTS: [u32; 17] = [
+    0,
+    1,
+    2,
+    31,
+    32,
+    33,
+    65534,
+    65535,
+    65536,
+    (1 << 31) - 1,
+    1 << 31,
+    (1 << 31) + 1,
+    33u32.wrapping_neg(),
+    32u32.wrapping_neg(),
+    31u32.wrapping_neg(),
+    2u32.wrapping_neg(),
+    1u32.wrapping_neg(),
+];
 
 /// Makes operations at a width.
 struct Cases(&'static Width);
@@ -27,6 +45,12 @@ fn slice(slot: usize, length: usize) -> Op {
 fn decode(slot: usize, log: impl IntoIterator<Item = u32>) -> Op {
     let log: Vec<u32> = log.into_iter().collect();
     Op::Decode { slot, room: log.len(), fill: FILL, log }
+}
+
+/// Decodes the surplus of a slot with got codes, into as many places.
+fn surplus(slot: usize, got: impl IntoIterator<Item = u32>) -> Op {
+    let got: Vec<u32> = got.into_iter().collect();
+    Op::DecodeSurplus { slot, room: got.len(), fill: FILL, got }
 }
 
 /// Writes the packet of a slot into a room of bytes.
@@ -80,6 +104,31 @@ impl Cases {
         ops
     }
 
+    /// P9 and P10 read as signed, negated and decoded for their surplus, into room enough and one place short; and a kit
+    /// that arrived whole with as many codes more as the threshold, two of one residue among them, and with one more.
+    fn surplus(&self) -> Vec<Op> {
+        let (p, greatest) = (self.0.modulus, self.0.greatest());
+        let short = |slot| Op::DecodeSurplus { slot, room: 1, fill: FILL, got: vec![1, 2] };
+        let told = |slot| [Op::SignedCount { slot }, surplus(slot, [1, 2]), short(slot), Op::Negate { slot, to: 1 }];
+        let mut ops = self.fresh(0, 1, []);
+        ops.push(Op::Remove { slot: 0, code: 1 });
+        ops.push(slice(1, self.0.words(1)));
+        ops.extend(told(0));
+        ops.extend([Op::SignedCount { slot: 1 }, decode(1, [1, 2]), surplus(1, [1, 2])]);
+        ops.extend(self.fresh(0, 2, [1]));
+        ops.push(Op::Remove { slot: 0, code: 2 });
+        ops.extend(told(0));
+        ops.push(slice(1, LONGEST));
+        ops.extend(told(0));
+        let got = [10, 12, greatest, 10, 3, greatest - p, 9];
+        ops.extend(self.fresh(0, 3, [10, 3]));
+        ops.extend(self.fresh(1, 3, [3, 12, 10, 10, greatest]));
+        ops.extend([Op::SubAssign { slot: 0, rhs: 1 }, Op::SignedCount { slot: 0 }, surplus(0, got), decode(0, got)]);
+        ops.extend([Op::Negate { slot: 0, to: 1 }, decode(1, got), surplus(1, got)]);
+        ops.extend([Op::Remove { slot: 0, code: 9 }, Op::SignedCount { slot: 0 }, surplus(0, got)]);
+        ops
+    }
+
     /// P12 and the case without a number: lengths of packets, the greatest sum, the greatest threshold.
     fn limits(&self) -> Vec<Op> {
         let (p, head, over) = (self.0.modulus, self.0.head_bytes(), self.0.packet_bytes(MAX_THRESHOLD + 1));
@@ -116,6 +165,8 @@ impl Cases {
         ops.extend([Op::WellFormed { slot }, Op::Insert { slot, code: 9 }, Op::Remove { slot, code: 8 }]);
         ops.extend([Op::ToCoeffs { slot, room: 2, fill: FILL }, decode(slot, [8, 9]), write(slot, full)]);
         ops.extend([Op::SerializeWithHint { slot, hint: 0, room: 9, fill: BYTE }, Op::SubAssign { slot, rhs: other }]);
+        ops.extend([Op::SignedCount { slot }, surplus(slot, [5, 6])]);
+        ops.extend([slice(2, length), Op::Negate { slot: other, to: 2 }, Op::Negate { slot, to: 2 }]);
         ops.extend([slice(2, length), Op::Sub { slot: other, rhs: other, to: 2 }]);
         ops.extend([Op::Sub { slot: other, rhs: slot, to: 2 }, Op::SubAssign { slot: other, rhs: slot }]);
         ops.extend([slice(slot, length), self.read(slot, 1, 1, &vec![1; threshold])]);
@@ -164,20 +215,21 @@ impl Cases {
             let (insert, remove) = (Op::Insert { slot, code: 3 }, Op::Remove { slot, code: 2 });
             let mut ops = vec![Op::Put { slot, words }, insert, remove.clone(), remove];
             ops.extend([Op::ToCoeffs { slot, room: 2, fill: FILL }, decode(slot, [2, 3])]);
-            ops.push(write(slot, self.0.packet_bytes(2)));
+            ops.extend([write(slot, self.0.packet_bytes(2)), Op::SignedCount { slot }, surplus(slot, [2, 3])]);
+            ops.push(Op::Negate { slot, to: 1 });
             ops
         };
-        COUNTS.into_iter().flat_map(of).collect()
+        std::iter::once(slice(1, self.0.words(2))).chain(COUNTS.into_iter().flat_map(of)).collect()
     }
 }
 
 /// All of it at a width.
 pub fn opening(width: &'static Width) -> Vec<Op> {
     let cases = Cases(width);
-    let (mut first, mut then) = (cases.field(), cases.limits());
+    let mut first = cases.field();
     if width.single_reduction {
         first.extend(cases.single_reduction());
-        then.extend(cases.counts());
     }
-    [first, cases.sketches(), then, cases.thresholds(), cases.slices()].concat()
+    let sketches = [cases.sketches(), cases.surplus(), cases.limits(), cases.counts()].concat();
+    [first, sketches, cases.thresholds(), cases.slices()].concat()
 }

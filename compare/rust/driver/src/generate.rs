@@ -1,8 +1,10 @@
 //! The operations of a run: the opening, and then from a seed rounds of two shapes.
 //!
-//! - A *history*: fresh sketches, then any calls in any order on them, up to some thousands.
-//! - A *bag*: the use that the sketch is made for. A log goes into one sketch and what arrived into a second; the
-//!   second is written, perhaps with a hint, and read again; the difference is decoded with the log.
+//! - A *history*: fresh sketches, then any calls in any order on them, up to some thousands; in some more is removed than
+//!   inserted, so that counts fall below 0.
+//! - A *bag*: the use that the sketch is made for. A log goes into one sketch and what arrived into a second, which lacks
+//!   some of it, has others too many, or both; the second is written, perhaps with a hint, and read again; the difference
+//!   is decoded with the log, and its surplus with what arrived.
 //!
 //! Codes, packets, rooms and the lengths of slices are drawn at each edge about as often as anywhere else. A sketch is
 //! made in words that hold anything before.
@@ -47,8 +49,9 @@ pub struct Generator {
     rng: Rng,
     sizes: Sizes,
     waiting: VecDeque<Step>,
-    /// Operations left in the history that is under way.
+    /// Operations left in the history that is under way, and how many of a hundred moves in it are removals.
     left: usize,
+    removals: usize,
     /// Codes in use, so that a removal meets an insertion and a log a root.
     recent: Vec<u32>,
 }
@@ -61,7 +64,7 @@ impl Generator {
             opening.extend(boundary::sweep(width));
         }
         let waiting = opening.into_iter().map(Step::Do).collect();
-        Generator { width, rng: Rng::new(seed), sizes, waiting, left: 0, recent: Vec::new() }
+        Generator { width, rng: Rng::new(seed), sizes, waiting, left: 0, removals: 0, recent: Vec::new() }
     }
 
     /// The next operation. The slots' words are looked at so that rooms and packets fall on the edges.
@@ -120,6 +123,7 @@ impl Generator {
             _ => self.sizes.history.min(60),
         };
         self.left = self.rng.range(1, most);
+        self.removals = self.rng.pick(&[20, 33, 33, 50, 67, 80]);
     }
 
     // ---- the parts of an operation
@@ -164,6 +168,11 @@ impl Generator {
     /// Any slot.
     fn slot(&mut self) -> usize {
         self.rng.below(self.sizes.slots)
+    }
+
+    /// The first slot that is neither of two.
+    fn another(&self, one: usize, other: usize) -> usize {
+        (0..self.sizes.slots).find(|&slot| slot != one && slot != other).unwrap()
     }
 
     /// A room around what is needed: exactly full, one short, one more, none, or some more.
@@ -217,8 +226,12 @@ impl Generator {
         let (has_last, last, need) = (width.has_last(), width.last(), width.words(threshold));
         let mut words: Vec<u32> = (0..LONGEST).map(|_| self.number()).collect();
         words[THRESHOLD] = threshold as u32;
-        if self.rng.percent(70) {
-            width.put_count(&mut words, self.rng.range(0, threshold + 1) as u32);
+        let near = self.rng.range(0, threshold + 1) as u32;
+        match self.rng.below(10) {
+            0..=3 => width.put_count(&mut words, near),
+            4..=6 => width.put_count(&mut words, near.wrapping_neg()),
+            7 => width.put_count(&mut words, self.rng.pick(&cases::COUNTS)),
+            _ => {}
         }
         (words[has_last], words[last]) = if self.rng.percent(70) { (1, words[last] % width.modulus) } else { (0, 0) };
         for sum in &mut words[width.sums()..need] {
@@ -296,33 +309,38 @@ impl Generator {
         let threshold = (word(words, THRESHOLD) as usize).min(MAX_THRESHOLD);
         let count = (self.width.count(words) as usize).min(threshold);
         match self.rng.below(100) {
-            0..=27 => Op::Insert { slot, code: self.code() },
-            28..=41 => Op::Remove { slot, code: self.code() },
-            42..=45 => Op::SubAssign { slot, rhs: self.slot() },
-            46..=50 => {
+            0..=39 if self.rng.percent(self.removals) => Op::Remove { slot, code: self.code() },
+            0..=39 => Op::Insert { slot, code: self.code() },
+            40..=43 => Op::SubAssign { slot, rhs: self.slot() },
+            44..=47 => {
                 let rhs = self.slot();
-                let to = (0..self.sizes.slots).find(|&k| k != slot && k != rhs).unwrap();
-                Op::Sub { slot, rhs, to }
+                Op::Sub { slot, rhs, to: self.another(slot, rhs) }
             }
-            51..=53 => Op::WellFormed { slot },
-            54..=58 => Op::ToCoeffs { slot, room: self.room(count), fill: self.number() },
-            59..=62 => self.evaluation(),
-            63..=68 => {
+            48..=50 => Op::Negate { slot, to: self.another(slot, slot) },
+            51 | 52 => Op::WellFormed { slot },
+            53..=55 => Op::SignedCount { slot },
+            56..=59 => Op::ToCoeffs { slot, room: self.room(count), fill: self.number() },
+            60..=63 => self.evaluation(),
+            64..=67 => {
                 let log = self.log();
                 Op::Decode { slot, room: self.room(log.len()), fill: self.number(), log }
             }
-            69..=72 => {
+            68..=72 => {
+                let got = self.log();
+                Op::DecodeSurplus { slot, room: self.room(got.len()), fill: self.number(), got }
+            }
+            73..=75 => {
                 let room = self.room(self.width.packet_bytes(threshold));
                 Op::Serialize { slot, room, fill: self.rng.next() as u8 }
             }
-            73..=76 => {
+            76..=78 => {
                 let hint = self.hint(threshold);
                 let room = self.room(self.width.packet_bytes(threshold.min(hint)));
                 Op::SerializeWithHint { slot, hint, room, fill: self.rng.next() as u8 }
             }
-            77..=81 => Op::Deserialize { slot, bytes: self.packet(slots) },
-            82 | 83 => Op::New { slot, threshold: self.any_threshold() },
-            84..=86 => Op::Put { slot, words: self.words() },
+            79..=82 => Op::Deserialize { slot, bytes: self.packet(slots) },
+            83 | 84 => Op::New { slot, threshold: self.any_threshold() },
+            85..=87 => Op::Put { slot, words: self.words() },
             _ => self.field(),
         }
     }
@@ -369,6 +387,18 @@ impl Generator {
         }
     }
 
+    /// How many codes of a bag did not arrive, and how many are too many: about up to the threshold of the one, of the
+    /// other, or of both.
+    fn missing_and_surplus(&mut self, threshold: usize) -> (usize, usize) {
+        let most = (threshold + 1).min(self.sizes.log);
+        let (missing, surplus) = (self.rng.range(0, most), self.rng.range(0, most));
+        match self.rng.below(10) {
+            0..=4 => (missing, 0),
+            5..=8 => (0, surplus),
+            _ => (missing, surplus),
+        }
+    }
+
     /// Slot 0 takes the log, slot 1 what arrived; slot 2 their difference.
     fn bag(&mut self) {
         let threshold = self.threshold();
@@ -376,20 +406,21 @@ impl Generator {
         self.plan_new(0, threshold);
         self.plan_new(1, arrived_threshold);
         self.plan_words(2, threshold.min(arrived_threshold));
-        let missing = self.rng.range(0, (threshold + 1).min(self.sizes.log));
+        let (missing, surplus) = self.missing_and_surplus(threshold);
         let length = self.rng.range(missing, (missing + 40).min(self.sizes.log));
         let log: Vec<u32> = (0..length).map(|_| self.code()).collect();
-        for (k, &code) in log.iter().enumerate() {
-            self.plan(Op::Insert { slot: 0, code });
-            if k >= missing {
-                self.plan(Op::Insert { slot: 1, code });
-            }
+        let more: Vec<u32> = (0..surplus).map(|_| self.code()).collect();
+        let got = [&more, &log[missing..]].concat();
+        for (slot, codes) in [(0, &log), (1, &got)] {
+            codes.iter().for_each(|&code| self.plan(Op::Insert { slot, code }));
         }
         self.write_and_carry(arrived_threshold);
         self.plan(Op::Sub { slot: 0, rhs: 1, to: 2 });
-        self.decode_both_ways(2, missing, &log);
+        self.decode_both_ways(2, missing, &log, &got);
         self.plan(Op::SubAssign { slot: 0, rhs: 1 });
-        self.decode_both_ways(0, missing, &log);
+        self.decode_both_ways(0, missing, &log, &got);
+        self.plan(Op::Negate { slot: 2, to: 1 });
+        self.decode_both_ways(1, surplus, &got, &log);
     }
 
     /// Slot 1 written, without a hint and with one, and perhaps replaced by what its packet reads as.
@@ -405,16 +436,27 @@ impl Generator {
         }
     }
 
-    /// Coefficients and lists of a slot, with the log and with the log turned round and one code more.
-    fn decode_both_ways(&mut self, slot: usize, missing: usize, log: &[u32]) {
+    /// The signed count, coefficients and lists of a slot: what it has of the log, with the log as it stands and turned
+    /// round with one code more, and its surplus, with the got codes likewise.
+    fn decode_both_ways(&mut self, slot: usize, missing: usize, log: &[u32], got: &[u32]) {
         let fill = self.number();
         let room = self.room(missing);
         self.plan(Op::ToCoeffs { slot, room, fill });
+        self.plan(Op::SignedCount { slot });
         let room = if self.rng.percent(80) { log.len() } else { self.room(log.len()) };
         self.plan(Op::Decode { slot, room, fill, log: log.to_vec() });
-        let mut turned = log.to_vec();
-        turned.reverse();
+        let log = self.turned(log);
+        self.plan(Op::Decode { slot, room: log.len(), fill, log });
+        let room = if self.rng.percent(80) { got.len() } else { self.room(got.len()) };
+        self.plan(Op::DecodeSurplus { slot, room, fill, got: got.to_vec() });
+        let got = self.turned(got);
+        self.plan(Op::DecodeSurplus { slot, room: got.len(), fill, got });
+    }
+
+    /// Codes turned round, and one more.
+    fn turned(&mut self, codes: &[u32]) -> Vec<u32> {
+        let mut turned: Vec<u32> = codes.iter().rev().copied().collect();
         turned.push(self.code());
-        self.plan(Op::Decode { slot, room: turned.len(), fill, log: turned });
+        turned
     }
 }

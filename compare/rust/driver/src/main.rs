@@ -23,8 +23,9 @@ mod width;
 
 use calls::{Calls, Calls16, Calls32};
 use generate::{Generator, Sizes};
-use op::{may_refuse, Op, KINDS};
+use op::{may_refuse, Op, EVAL_PRECOMPUTE, KINDS};
 use oracle::{Oracle, Published};
+use ours::MAX_THRESHOLD;
 use quack::PowerSumQuackU32;
 use std::collections::BTreeSet;
 use std::io::Write;
@@ -38,8 +39,9 @@ const SCRIPT: Sizes = Sizes { slots: 3, bags: 60, history: 2_000, log: 60, wide:
 /// Small, so that a program with fixed arrays can replay it: no number above 2^32 - 1, no list above 200.
 const RECORD: Sizes = Sizes { slots: 3, bags: 20, history: 60, log: 24, wide: false, small: 70 };
 
-/// Operations by kind, of these the refused ones by number, how far insertions and decodings reached, and how many
-/// operations were on slots that a sketch fills, on slots with words behind it, and on slots with none.
+/// Operations by kind, of these the refused ones by number, how far insertions and decodings reached, also those of a
+/// surplus, and how many operations were on slots that a sketch fills, on slots with words behind it, and on slots with
+/// none.
 #[derive(Default)]
 struct Tally {
     made: [u64; KINDS.len() + 1],
@@ -47,6 +49,8 @@ struct Tally {
     inserted_at: BTreeSet<u64>,
     listed: u64,
     decoded_counts: BTreeSet<u32>,
+    surplus_listed: u64,
+    surplus_counts: BTreeSet<i32>,
     filled: u64,
     longer: u64,
     without: u64,
@@ -75,13 +79,17 @@ impl Tally {
                 self.listed += 1;
                 self.decoded_counts.insert(S::WIDTH.count(oracle.words(*slot)));
             }
+            (Op::DecodeSurplus { slot, .. }, [0, found, ..]) if *found > 0 => {
+                self.surplus_listed += 1;
+                self.surplus_counts.insert(oracle.signed_count(*slot));
+            }
             _ => {}
         }
     }
 
     /// Prints what was counted, kind by kind.
     fn print(&self, width: &Width) {
-        for (name, kind) in kinds(width).iter().zip(1..) {
+        for (name, kind) in KINDS.iter().zip(1..).filter(|&(_, kind)| has(width, kind)) {
             let refusals: Vec<String> = (1..16)
                 .filter(|&n| self.refused[kind][n] > 0)
                 .map(|n| format!("{n}: {}", self.refused[kind][n]))
@@ -91,10 +99,12 @@ impl Tally {
             println!("  {name:26}{:>10}{refused}", self.made[kind]);
         }
         println!(
-            "  insertions at {} thresholds; {} decodings that list something, at {} counts",
+            "  insertions at {} thresholds; {} decodings that list something, at {} counts, and {} of a surplus, at {}",
             self.inserted_at.len(),
             self.listed,
-            self.decoded_counts.len()
+            self.decoded_counts.len(),
+            self.surplus_listed,
+            self.surplus_counts.len()
         );
         println!(
             "  {} operations on slices that a sketch fills, {} with words behind it, {} on slices without a sketch",
@@ -103,13 +113,9 @@ impl Tally {
     }
 }
 
-/// The names of the operations that a width has.
-fn kinds(width: &Width) -> &'static [&'static str] {
-    if width.single_reduction {
-        &KINDS
-    } else {
-        &KINDS[..KINDS.len() - 1]
-    }
+/// Whether a width has the operations of a kind.
+fn has(width: &Width, kind: usize) -> bool {
+    kind != EVAL_PRECOMPUTE || width.single_reduction
 }
 
 /// The sides' slots agree, and no call wrote outside what it was lent.
@@ -154,6 +160,10 @@ fn compare<S: Published, C: Calls>(operations: u64, seed: u64) -> u64 {
         "  {} removals of a code of the prime or more whose residue is the last code; the Rust keeps it at {}, as listed",
         oracle.keeping, oracle.kept
     );
+    if tally.surplus_counts != (-(MAX_THRESHOLD as i32)..0).collect() {
+        differences += 1;
+        println!("difference: a surplus is to be listed at each number from 1 to the greatest threshold");
+    }
     if oracle.keeping == 0 || oracle.kept != oracle.keeping {
         differences += 1;
         println!("difference: the Rust is to keep such a last code each time, and there is to be one");

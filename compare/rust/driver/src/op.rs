@@ -65,10 +65,16 @@ pub enum Op {
     PowMultiplications(u32),
     /// x coefficients.. → refusal, value; at 16 bits alone
     EvalPrecompute { x: u32, coeffs: Vec<u32> },
+    /// slot → 1 if the signed count is negative otherwise 0, its size
+    SignedCount { slot: usize },
+    /// slot to → refusal, the words of the slot `to`, which is another
+    Negate { slot: usize, to: usize },
+    /// slot room fill got codes.. → refusal, n, the buffer
+    DecodeSurplus { slot: usize, room: usize, fill: u32, got: Vec<u32> },
 }
 
 /// The names of the kinds; a kind's number is its place here, from 1, and what a width adds.
-pub const KINDS: [&str; 22] = [
+pub const KINDS: [&str; 25] = [
     "new",
     "put",
     "well_formed",
@@ -91,11 +97,17 @@ pub const KINDS: [&str; 22] = [
     "field_pow",
     "field_pow_multiplications",
     "eval_precompute",
+    "signed_count",
+    "negate",
+    "decode_surplus_with_log",
 ];
+
+/// The number at 32 bits of the kind that one width alone has.
+pub const EVAL_PRECOMPUTE: usize = 22;
 
 /// Whether the first answer of a kind is a refusal.
 pub fn may_refuse(kind: usize) -> bool {
-    (4..=13).contains(&kind) || kind == 1 || kind == 22
+    (4..=13).contains(&kind) || [1, EVAL_PRECOMPUTE, 24, 25].contains(&kind)
 }
 
 impl Op {
@@ -123,7 +135,10 @@ impl Op {
             Op::Inv(_) => 19,
             Op::Pow(..) => 20,
             Op::PowMultiplications(_) => 21,
-            Op::EvalPrecompute { .. } => 22,
+            Op::EvalPrecompute { .. } => EVAL_PRECOMPUTE,
+            Op::SignedCount { .. } => 23,
+            Op::Negate { .. } => 24,
+            Op::DecodeSurplus { .. } => 25,
         }
     }
 
@@ -141,7 +156,10 @@ impl Op {
             | Op::Decode { slot, .. }
             | Op::Serialize { slot, .. }
             | Op::SerializeWithHint { slot, .. }
-            | Op::Deserialize { slot, .. } => Some(slot),
+            | Op::Deserialize { slot, .. }
+            | Op::SignedCount { slot }
+            | Op::Negate { slot, .. }
+            | Op::DecodeSurplus { slot, .. } => Some(slot),
             _ => None,
         }
     }
@@ -152,13 +170,15 @@ impl Op {
         match self {
             Op::New { threshold, .. } => (vec![*threshold as u64], vec![]),
             Op::Put { words, .. } => (vec![], wide(words)),
-            Op::WellFormed { .. } => (vec![], vec![]),
+            Op::WellFormed { .. } | Op::SignedCount { .. } => (vec![], vec![]),
             Op::Insert { code, .. } | Op::Remove { code, .. } => (vec![*code as u64], vec![]),
             Op::SubAssign { rhs, .. } => (vec![*rhs as u64], vec![]),
             Op::Sub { rhs, to, .. } => (vec![*rhs as u64, *to as u64], vec![]),
+            Op::Negate { to, .. } => (vec![*to as u64], vec![]),
             Op::ToCoeffs { room, fill, .. } => (vec![*room as u64, *fill as u64], vec![]),
             Op::Eval { x, coeffs } | Op::EvalPrecompute { x, coeffs } => (vec![*x as u64], wide(coeffs)),
             Op::Decode { room, fill, log, .. } => (vec![*room as u64, *fill as u64], wide(log)),
+            Op::DecodeSurplus { room, fill, got, .. } => (vec![*room as u64, *fill as u64], wide(got)),
             Op::Serialize { room, fill, .. } => (vec![*room as u64, *fill as u64], vec![]),
             Op::SerializeWithHint { hint, room, fill, .. } => (vec![*hint as u64, *room as u64, *fill as u64], vec![]),
             Op::Deserialize { bytes, .. } => (vec![], bytes.iter().map(|&b| b as u64).collect()),

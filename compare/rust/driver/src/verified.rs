@@ -122,7 +122,7 @@ impl<C: Calls> Verified<C> {
         answer
     }
 
-    /// The operations that change a slot.
+    /// The operations on slots that are lent no buffer.
     fn call(&mut self, op: &Op) -> Vec<u64> {
         match op {
             Op::New { slot, threshold } => self.change(*slot, |_, words| C::new(*threshold, words)),
@@ -141,6 +141,11 @@ impl<C: Calls> Verified<C> {
             Op::Sub { slot, rhs, to } => {
                 self.change(*to, |side, words| C::sub(side.words(*slot), side.words(*rhs), words))
             }
+            Op::Negate { slot, to } => self.change(*to, |side, words| C::negate(side.words(*slot), words)),
+            Op::SignedCount { slot } => {
+                let count = C::signed_count(self.words(*slot));
+                vec![(count < 0) as u64, count.unsigned_abs() as u64]
+            }
             Op::Deserialize { slot, bytes } => self.change(*slot, |_, words| C::deserialize(bytes, words)),
             _ => self.lent(op),
         }
@@ -155,6 +160,10 @@ impl<C: Calls> Verified<C> {
             Op::Decode { slot, room, fill, ref log } => {
                 let log = numbers::<C>(log);
                 self.lend_words(room, fill, |side, buffer| C::decode_with_log(side.words(slot), &log, buffer))
+            }
+            Op::DecodeSurplus { slot, room, fill, ref got } => {
+                let got = numbers::<C>(got);
+                self.lend_words(room, fill, |side, buffer| C::decode_surplus_with_log(side.words(slot), &got, buffer))
             }
             Op::Serialize { slot, room, fill } => {
                 self.lend(room, fill, GUARD_BYTE, |side, buffer| C::serialize(side.words(slot), buffer))

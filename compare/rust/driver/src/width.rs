@@ -94,6 +94,14 @@ impl Width {
         (0..self.count_words()).fold(0, |count, part| count | word(words, COUNT + part) << (self.bits * part))
     }
 
+    /// The count in words as a signed number of 32 bits; 0 where there are fewer words than stand before the sums.
+    pub fn signed_count(&self, words: &[u32]) -> i32 {
+        if words.len() < self.sums() {
+            return 0;
+        }
+        self.count(words) as i32
+    }
+
     /// Puts a count into words.
     pub fn put_count(&self, words: &mut [u32], count: u32) {
         for part in 0..self.count_words() {
