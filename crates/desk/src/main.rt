@@ -1,5 +1,7 @@
 // The desk program: reads standard input to its end, and writes one answer.
 // What a read hands over and what a write takes stands in no contract. All else does: what is written is the answer to some bytes.
+#![tactic(auto)]
+
 ghost use Rattle.std.specs.Prelude.{◌≡◌, ◌≤◌, length};
 ghost use Rattle.desk_rules.specs.Desk.{most_lines};
 ghost use Rattle.desk_reader.specs.Reader.{start_of};
@@ -11,7 +13,7 @@ use desk_text::answer;
 use libc::{STDERR_FILENO, STDIN_FILENO, STDOUT_FILENO};
 
 // Where the reading of standard input stands: what its bytes so far have led to, and whether there may be more of them.
-#[derive(Drop)]
+#[derive(Clone, Copy)]
 pub struct Source {
     pub reading: Reading,
     pub more: bool,

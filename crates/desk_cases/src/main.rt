@@ -1,5 +1,7 @@
 // Inputs of the desk program, good and bad, listed on standard input or built here. Each is fed at once and in pieces of
 // 1, of 7 and of all bytes, and what is written is held to what should be.
+#![tactic(auto)]
+
 mod large;
 mod listed;
 mod tally;

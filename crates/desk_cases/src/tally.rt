@@ -4,7 +4,7 @@ ghost use Rattle.std.specs.Prelude.{◌≡◌, ◌<◌, length};
 use desk_text::answer;
 
 // How many inputs were tried, and how many of them were answered otherwise than expected.
-#[derive(Drop)]
+#[derive(Clone, Copy)]
 pub struct Tally {
     pub inputs: u32,
     pub differences: u32,

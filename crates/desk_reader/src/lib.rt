@@ -1,4 +1,6 @@
 // The desk program's lines, read byte by byte, in pieces of any length.
+#![tactic(auto)]
+
 ghost use Rattle.std.specs.Prelude.{◌≡◌, ◌≤◌, ◌<◌, length, get_or};
 ghost use Rattle.desk_rules.specs.Desk.{most_lines};
 ghost use Rattle.desk_reader.specs.Reader.{word_of, first_byte, word_byte, first_digit, next_digit, line_byte};
@@ -12,7 +14,7 @@ use power_sum32::power_sum::PowerSumQuackU32;
 pub const MOST_LINES: usize = 8192;
 
 // The word of a line.
-#[derive(Drop)]
+#[derive(Clone, Copy)]
 pub enum Key {
     Threshold,
     Log,
@@ -20,7 +22,7 @@ pub enum Key {
 }
 
 // Where the bytes of a line so far have led: nowhere yet, into its word, into its number, or astray.
-#[derive(Drop)]
+#[derive(Clone, Copy)]
 pub enum Line {
     Fresh,
     Word { key: Key, at: usize },
@@ -29,7 +31,7 @@ pub enum Line {
 }
 
 // Which lines the input has had, or the number of the refusal by its first bad line.
-#[derive(Drop)]
+#[derive(Clone, Copy)]
 pub enum Phase {
     Unbegun,
     Logs,
@@ -39,7 +41,7 @@ pub enum Phase {
 
 // What the whole lines so far have given: `sent` is the sketch of the log lines, `arrived` that of the got lines. The log's entries stand in a lent
 // array, from its front, and so do the got codes in another.
-#[derive(Drop)]
+#[derive(Clone, Copy)]
 pub struct Desk {
     pub phase: Phase,
     pub entries: usize,
@@ -49,14 +51,14 @@ pub struct Desk {
 }
 
 // Where the reading of an input stands.
-#[derive(Drop)]
+#[derive(Clone, Copy)]
 pub struct Reading {
     pub desk: Desk,
     pub line: Line,
 }
 
 // A reading, or the number of a refusal and the reading given.
-#[derive(Drop)]
+#[derive(Clone, Copy)]
 pub struct Fed {
     pub refusal: u32,
     pub reading: Reading,

@@ -1,4 +1,6 @@
 // Runs the calls in place on cases of the bench, and writes how many there are and how many differ.
+#![tactic(auto)]
+
 ghost use Rattle.std.specs.Prelude.{◌≤◌};
 
 use libc::STDOUT_FILENO;

@@ -1,5 +1,7 @@
 // What every width of code does with slices that are lent: numbers as bytes, the lowest byte first, and the answer of a call that writes a
 // list. And counts as signed numbers.
+#![tactic(auto)]
+
 ghost use Rattle.std.specs.Prelude.{◌≡◌, ◌<◌, ◌^◌, min, nat_abs, length, take};
 ghost use Rattle.rules.specs.Kind.{count_bytes};
 ghost use Rattle.rules.specs.Signed.{signed_count, below_zero};
@@ -12,7 +14,7 @@ pub const COUNT_BYTES: usize = 4;
 
 // How many numbers or bytes were written, or the number of a refusal and 0.
 #[repr(C)]
-#[derive(Drop)]
+#[derive(Clone, Copy)]
 pub struct Number {
     pub refusal: u32,
     pub value: usize,

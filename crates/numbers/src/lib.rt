@@ -1,1 +1,2 @@
 // Primes and congruence: mathematics, in specs/ and proofs/.
+#![tactic(auto)]

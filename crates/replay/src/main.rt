@@ -1,5 +1,7 @@
 // Replays a recorded list of operations, read from standard input, on the calls of both widths, and writes how many
 // operations there were and how many were not answered as recorded.
+#![tactic(auto)]
+
 mod line;
 mod reading;
 
@@ -7,7 +9,7 @@ use modint16::Word as Narrow;
 use operations32::slots::PLACES;
 use reading::Reading;
 
-#[derive(Drop)]
+#[derive(Clone, Copy)]
 struct Turn {
     more: bool,
     reading: Reading,

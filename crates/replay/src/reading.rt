@@ -5,7 +5,7 @@ use operations32::slots::PLACES;
 
 // How many numbers of the line stand in the array, the number that is being read, whether it has a digit, whether the
 // line can be read so far, and what was counted up to this line.
-#[derive(Drop)]
+#[derive(Clone, Copy)]
 pub(crate) struct Reading {
     pub(crate) count: usize,
     pub(crate) number: u64,
