@@ -1,4 +1,6 @@
 // The field of 16-bit codes modulo the greatest 16-bit prime: codes, residues, and their arithmetic.
+#![tactic(auto)]
+
 ghost use Rattle.std.specs.Prelude.{◌≡◌, ◌<◌, ◌*◌};
 ghost use Rattle.rules.specs.Kind.{kind16};
 ghost use Rattle.rules.specs.Field.{residue, plus, minus, negative, times, multiplications, inverse};
@@ -14,17 +16,17 @@ pub type Word = u16;
 pub type Wide = u32;
 
 // A code as it is printed on a piece: any number of 16 bits.
-#[derive(Drop)]
+#[derive(Clone, Copy)]
 pub struct Code(pub Word);
 
 // A residue modulo the prime. Only a reduction turns a code into one.
 #[repr(C)]
-#[derive(Drop)]
+#[derive(Clone, Copy)]
 pub struct Residue(Word);
 
 // A power, and the number of field multiplications that were made for it.
 #[repr(C)]
-#[derive(Drop)]
+#[derive(Clone, Copy)]
 pub struct Powered {
     pub value: Residue,
     pub multiplications: u32,
