@@ -13,8 +13,7 @@ use modint32::{PLACES, Word};
 // The words of a sketch of the greatest threshold.
 const MOST: usize = HEAD + PLACES;
 
-#[unsafe(no_mangle)]
-pub extern "C" fn eddy32_signed_count(s: &[Word]) -> i32
+pub fn eddy32_signed_count(s: &[Word]) -> i32
     ensures { result ≡ signed_count_in kind32 s.now }
 {
     if s.len() < HEAD {
@@ -24,8 +23,7 @@ pub extern "C" fn eddy32_signed_count(s: &[Word]) -> i32
 }
 
 // A fresh sketch less this one.
-#[unsafe(no_mangle)]
-pub extern "C" fn eddy32_negate(s: &[Word], out: &mut [Word]) -> u32
+pub fn eddy32_negate(s: &[Word], out: &mut [Word]) -> u32
     ensures refusal { result ≡ refusal_of (negate_in kind32 s.now (length out.old)) }
     ensures words { out.new ≡ written (negate_in kind32 s.now (length out.old)) out.old }
 {
@@ -38,8 +36,7 @@ pub extern "C" fn eddy32_negate(s: &[Word], out: &mut [Word]) -> u32
     power_sum::eddy32_sub(&nothing, s, out)
 }
 
-#[unsafe(no_mangle)]
-pub extern "C" fn eddy32_decode_surplus_with_log(
+pub fn eddy32_decode_surplus_with_log(
     s: &[Word],
     got: &[Word],
     out: &mut [Word],
