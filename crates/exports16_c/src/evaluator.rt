@@ -1,0 +1,16 @@
+// The value of a polynomial at a code.
+ghost use Rattle.std.specs.Prelude.{◌≡◌};
+ghost use Rattle.rules.specs.Kind.{kind16};
+ghost use Rattle.rules.specs.Calls.{evaluate};
+ghost use Rattle.polynomial16.specs.Answers.{valued};
+
+use exports16::evaluator;
+use modint16::Word;
+use polynomial16::evaluator::Evaluated;
+
+#[unsafe(no_mangle)]
+pub extern "C" fn eddy16_eval(coeffs: &[Word], x: Word) -> Evaluated
+    ensures { result ≡ valued (evaluate kind16 coeffs.now x) }
+{
+    evaluator::eddy16_eval(coeffs, x)
+}
