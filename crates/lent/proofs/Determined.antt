@@ -6,6 +6,7 @@ use mathlib.Core.List.{List}
 use lib.IntN.{ℤ}
 use contract.Lifetimes.{Lfts}
 use denote.Ref.{Bor}
+use denote.MutBor.{MutBor}
 use Rattle.rules.specs.Determines.{Determines}
 use Rattle.rules.proofs.Determined.{by_equation}
 use Rattle.lent.proofs.Number.refused.Reads as refused
@@ -18,12 +19,16 @@ use Rattle.lent.proofs.signed.Reads as signed
 use Rattle.lent.proofs.size.Reads as size
 use Rattle.lent.proofs.below_zero.Reads as below_zero
 
+-- A reference that may be written through, to a value, wherever it points.
+abbrev pub lent_mut : {X : Type 0} → X → MutBor X
+lent_mut x = record { ref_ptr = (0, 0); ghost_name = 0; now = x }
+
 -- A promise determines what a lent slice holds at the end: any two that it allows hold the same.
-abbrev pub Leaves : (Bor (List ℕ) → Type 0) → Type 0
-Leaves promise = (s s' : Bor (List ℕ)) → promise s → promise s' → s.now ≡ s'.now
+abbrev pub Leaves : (MutBor (List ℕ) → Type 0) → Type 0
+Leaves promise = (s s' : MutBor (List ℕ)) → promise s → promise s' → s.now ≡ s'.now
 
 -- One equation for it does.
-pub left_by_equation : (left : List ℕ) → Leaves (λ (s : Bor (List ℕ)). s.now ≡ left)
+pub left_by_equation : (left : List ℕ) → Leaves (λ (s : MutBor (List ℕ)). s.now ≡ left)
 left_by_equation left s s' p p' = p ∙ sym p'
 
 -- The number of a refusal makes one answer.
@@ -39,7 +44,7 @@ pub smaller_determined : (a b : ℕ) → Determines (λ r. smaller.Post tt (a, (
 smaller_determined a b = by_equation _
 
 -- Writing a number leaves one list of bytes.
-pub put_number_determined : (κs : Lfts 1) (part : Bor (List ℕ)) (x : ℕ) → Leaves (λ part₁. put_number.Post κs (part, (x, tt)) tt (part₁, (x, tt)))
+pub put_number_determined : (κs : Lfts 1) (part : MutBor (List ℕ)) (x : ℕ) → Leaves (λ part₁. put_number.Post κs (part, (x, tt)) tt (part₁, (x, tt)))
 put_number_determined κs part x = left_by_equation _
 
 -- A part says one number.

@@ -1,11 +1,6 @@
 -- What the proofs of lent slices and of lent sketches rest on, a file for each matter.
 pub mod Lists
-pub mod Data
 pub mod Types
-pub mod InPlace
-pub mod Once
 pub mod Determined
 pub mod Wrong
 mod Bytes
-mod Registers
-mod Walk

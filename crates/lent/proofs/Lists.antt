@@ -30,9 +30,9 @@ pub record Holds (o : Outcome (List ℕ)) (n : ℕ) (buffer : List ℕ) : Type 0
   pub room : n ≤ length buffer
 
 -- So it is after a call that was not refused.
-pub Holds : (o : Outcome (List ℕ)) → Numbered o → (before : List ℕ) {r : Number} {buffer : List ℕ} → r ≡ numbered o → r.refusal ≡ 0 → buffer ≡ written o before
+pub holds : (o : Outcome (List ℕ)) → Numbered o → (before : List ℕ) {r : Number} {buffer : List ℕ} → r ≡ numbered o → r.refusal ≡ 0 → buffer ≡ written o before
     → Holds o r.value buffer
-Holds o h before {r} {buffer} er none eb =
+holds o h before {r} {buffer} er none eb =
     let there = unrefused o h (sym (ap (λ (a : Number). a.refusal) er) ∙ none) in
     let many : r.value ≡ length there.0 = ap (λ (a : Number). a.value) er ∙ ap length_of there.1 in
     let here : buffer ≡ there.0 ++ drop (length there.0) before = eb ∙ ap (λ (z : Outcome (List ℕ)). written z before) there.1 in

@@ -12,6 +12,7 @@ use Rattle.rules.specs.Packet.{bytes, number}
 use Rattle.rules.proofs.Determined.{lent, differs, both_differ}
 use Rattle.lent.specs.declared.Number.{Number}
 use Rattle.lent.specs.Answers.{counted}
+use Rattle.lent.proofs.Determined.{lent_mut}
 use Rattle.lent.proofs.Number.refused.Reads as refused
 use Rattle.lent.proofs.Number.wrote.Reads as wrote
 use Rattle.lent.proofs.smaller.Reads as smaller
@@ -36,7 +37,7 @@ smaller_wrong = both_differ (λ (n : ℕ). n) _ _ refl refl
 
 -- The highest byte comes first, or the part is left as it was.
 pub put_number_wrong : (κs : Lfts 1)
-    → RefusesBoth (λ (l : List ℕ). put_number.Post κs (lent (0 ∷ 0 ∷ []), (256, tt)) tt (lent l, (256, tt))) (1 ∷ 0 ∷ []) (0 ∷ 0 ∷ [])
+    → RefusesBoth (λ (l : List ℕ). put_number.Post κs (lent_mut (0 ∷ 0 ∷ []), (256, tt)) tt (lent_mut l, (256, tt))) (1 ∷ 0 ∷ []) (0 ∷ 0 ∷ [])
 unfolding bytes
 put_number_wrong κs = both_differ (λ (l : List ℕ). get_or l 1 0) _ _ refl refl
 

@@ -81,6 +81,7 @@ pub fn count_of(part: &[u8]) -> u32
 }
 
 // A count read as a signed difference: negative from 2^31 on.
+#[tactic(auto, using(rules::proofs::Negation::signed_itself, rules::proofs::Negation::signed_negative))]
 pub fn signed(count: u32) -> i32
     ensures { result ≡ signed_count count }
 {
