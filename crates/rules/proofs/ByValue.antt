@@ -1,12 +1,11 @@
 -- The exported calls beside the calls by value: on the words of a sketch they come to the same.
 -- Assumes nothing.
-use Prim.Native.Nat.{ℕ, ◌+◌, ◌-◌}
+use Prim.Native.Nat.{ℕ}
 use mathlib.Core.Path.{◌≡◌}
 use mathlib.Core.Bool.{true}
 use mathlib.Core.List.{List, ◌++◌}
 use Rattle.rules.specs.Kind.{Kind}
-use Rattle.rules.specs.Sketch.{Sketch, nothing, WellFormed}
-use Rattle.rules.specs.Decode.{coefficients}
+use Rattle.rules.specs.Sketch.{Sketch, WellFormed}
 use Rattle.rules.specs.Calls as calls
 use Rattle.rules.specs.Words.{words_of, insert_in, remove_in, sub_assign_in, sub_in, coefficients_in, decode_in, write_in}
 use Rattle.rules.specs.Words.{write_with_hint_in, negate_in, decode_surplus_in}
