@@ -19,10 +19,6 @@ use Rattle.lent.proofs.signed.Reads as signed
 use Rattle.lent.proofs.size.Reads as size
 use Rattle.lent.proofs.below_zero.Reads as below_zero
 
--- A reference that may be written through, to a value, wherever it points.
-abbrev pub lent_mut : {X : Type 0} → X → MutBor X
-lent_mut x = record { ref_ptr = (0, 0); ghost_name = 0; now = x }
-
 -- A promise determines what a lent slice holds at the end: any two that it allows hold the same.
 abbrev pub Leaves : (MutBor (List ℕ) → Type 0) → Type 0
 Leaves promise = (s s' : MutBor (List ℕ)) → promise s → promise s' → s.now ≡ s'.now

@@ -9,10 +9,9 @@ use contract.Lifetimes.{Lfts}
 use Rattle.rules.specs.Determines.{RefusesBoth}
 use Rattle.rules.specs.Signed.{signed_count, below_zero}
 use Rattle.rules.specs.Packet.{bytes, number}
-use Rattle.rules.proofs.Determined.{lent, differs, both_differ}
+use Rattle.rules.proofs.Determined.{lent, lent_mut, differs, both_differ}
 use Rattle.lent.specs.declared.Number.{Number}
 use Rattle.lent.specs.Answers.{counted}
-use Rattle.lent.proofs.Determined.{lent_mut}
 use Rattle.lent.proofs.Number.refused.Reads as refused
 use Rattle.lent.proofs.Number.wrote.Reads as wrote
 use Rattle.lent.proofs.smaller.Reads as smaller
