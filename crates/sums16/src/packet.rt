@@ -87,7 +87,7 @@ fn put_sums(sums: &mut [Word], part: &[u8])
 }
 
 // What a packet says beside its sums, or the number of a refusal.
-#[derive(Drop)]
+#[derive(Clone, Copy)]
 pub struct PacketHead {
     pub refusal: u32,
     pub threshold: usize,

@@ -8,7 +8,7 @@ ghost use Rattle.sums16.specs.Chains.{four_at, times_at};
 use modint16::{Residue, Word};
 
 // Four numbers side by side, so that no product waits for the one before it.
-#[derive(Drop)]
+#[derive(Clone, Copy)]
 struct Four {
     v0: Word,
     v1: Word,
@@ -17,7 +17,7 @@ struct Four {
 }
 
 // How many sums have moved, and the power by which the last of them did.
-#[derive(Drop)]
+#[derive(Clone, Copy)]
 struct Reached {
     place: usize,
     power: Word,
