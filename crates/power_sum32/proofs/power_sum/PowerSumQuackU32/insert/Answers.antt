@@ -1,5 +1,5 @@
 -- The sums move up, the count by one, and the residue is the last code.
-use Rattle.std.proofs.Common.{◌≡◌, sym, ◌∙◌}
+use Rattle.std.proofs.Common.{sym, ◌∙◌}
 use Rattle.rules.specs.Kind.{kind32}
 use Rattle.rules.specs.Sketch.{insert}
 use Rattle.rules.specs.Calls as calls

@@ -1,5 +1,5 @@
 -- The sums move down, the count by one, and the last code stays unless it is the residue.
-use Rattle.std.proofs.Common.{◌≡◌, sym, ◌∙◌, lit<, rules}
+use Rattle.std.proofs.Common.{sym, ◌∙◌, lit<, rules}
 use Rattle.rules.specs.Kind.{kind32}
 use Rattle.rules.specs.Sketch.{remove}
 use Rattle.rules.specs.Calls as calls

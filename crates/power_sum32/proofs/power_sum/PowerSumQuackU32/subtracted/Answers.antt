@@ -1,5 +1,5 @@
 -- The differences of the sums that both have go to places of zeros.
-use Rattle.std.proofs.Common.{◌≡◌, ℕ, ◌-◌, ◌≤◌, true, List, ◌++◌, map, length, drop, replicate, refl, arith, rules}
+use Rattle.std.proofs.Common.{◌≡◌, ◌-◌, ◌≤◌, true, ◌++◌, map, length, drop, replicate, refl, arith, rules}
 use Rattle.std.proofs.Math.Nat.{sub-zero}
 use Rattle.std.proofs.Math.ListN.{length-map}
 use Rattle.modint32.specs.Answers.{val}

@@ -1,11 +1,9 @@
 -- Every sum is written: the hint is the threshold.
--- Assumes nothing.
-use Rattle.std.proofs.Common.{◌≡◌, ℕ, min, length, arith, rules}
+use Rattle.std.proofs.Common.{◌≡◌, ℕ, min, length, arith}
 use Rattle.rules.specs.Calls as calls
 use Rattle.power_sum16.specs.declared.power_sum.PowerSumQuackU16.{PowerSumQuackU16}
 use Rattle.power_sum16.specs.Answers.{write_of, write_with_hint_of}
-use Rattle.power_sum16.proofs.power_sum.PowerSumQuackU16.serialize.Statement.{statement}
-use Rattle.power_sum16.proofs.power_sum.PowerSumQuackU16.serialize.Tie as tie
+use Rattle.power_sum16.proofs.power_sum.PowerSumQuackU16.serialize.Goals as goal
 
 -- Writing with the threshold for a hint is writing.
 all_sums : (s : PowerSumQuackU16) (room : ℕ) → write_with_hint_of s s.threshold room ≡ write_of s room
@@ -14,11 +12,7 @@ all_sums s room =
     let whole : min s.threshold s.threshold ≡ s.threshold = omega arith in
     rw whole
 
-returns : tie.Need-returns
+pub returns : goal.returns
 returns c =
-    let a = c.before.before.before.before.before.args in
-    let same = all_sums a.self (length a.buf.now) in
-    rw same at c.before.before.serialize-with-hint.ensures
-
-pub serialize_spec : {M : Type 1} → statement M
-serialize_spec = tie.close (tie.spec (λ c κs. tt) (λ c. search rules) returns)
+    let same = all_sums c.args.self (length c.args.buf.now) in
+    record { answer = rw same at c.serialize_with_hint.ensures.answer; buffer = rw same at c.serialize_with_hint.ensures.buffer }
