@@ -36,11 +36,7 @@ pub fn eddy32_negate(s: &[Word], out: &mut [Word]) -> u32
     power_sum::eddy32_sub(&nothing, s, out)
 }
 
-pub fn eddy32_decode_surplus_with_log(
-    s: &[Word],
-    got: &[Word],
-    out: &mut [Word],
-) -> Number
+pub fn eddy32_decode_surplus_with_log(s: &[Word], got: &[Word], out: &mut [Word]) -> Number
     ensures answer { result ≡ numbered (decode_surplus_in kind32 s.now got.now (length out.old)) }
     ensures buffer { out.new
         ≡ written (decode_surplus_in kind32 s.now got.now (length out.old)) out.old }
