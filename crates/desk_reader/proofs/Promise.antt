@@ -6,6 +6,7 @@ use mathlib.Core.Path.{◌≡◌, ap, sym, ◌∙◌}
 use mathlib.Core.List.{List}
 use contract.Lifetimes.{Lfts}
 use denote.Ref.{Bor}
+use denote.MutBor.{MutBor}
 use Rattle.rules.specs.Kind.{kind32}
 use Rattle.desk_rules.proofs.Desk.{state_after}
 use Rattle.desk_reader.specs.declared.Reading.{Reading}
@@ -21,10 +22,10 @@ use Rattle.desk_reader.proofs.feed.Reads as feed
 -- A piece is fed to a reading that is lent a log and got codes.
 pub record PieceFed (r : Reading) (log got piece : List ℕ) (z : Fed) (log₁ got₁ : List ℕ) : Type 0 where
   pub κs : Lfts 3
-  pub log_lent : Bor (List ℕ)
-  pub log_lent₁ : Bor (List ℕ)
-  pub got_lent : Bor (List ℕ)
-  pub got_lent₁ : Bor (List ℕ)
+  pub log_lent : MutBor (List ℕ)
+  pub log_lent₁ : MutBor (List ℕ)
+  pub got_lent : MutBor (List ℕ)
+  pub got_lent₁ : MutBor (List ℕ)
   pub piece_lent : Bor (List ℕ)
   pub piece_lent₁ : Bor (List ℕ)
   pub the_log : log_lent.now ≡ log
@@ -48,7 +49,7 @@ tied (further {bs} {r} log got piece log' got' read p) =
     rw (q.0, sym p.left ∙ q.1.0, sym p.left_gots ∙ q.1.1) (tied_feed bs r log got (tied read) piece)
 
 -- No piece is refused.
-pub never_refused : {bs : List ℕ} {r : Reading} {z : Fed} (κs : Lfts 3) (log got piece log₁ got₁ piece₁ : Bor (List ℕ))
+pub never_refused : {bs : List ℕ} {r : Reading} {z : Fed} (κs : Lfts 3) (log got : MutBor (List ℕ)) (piece : Bor (List ℕ)) (log₁ got₁ : MutBor (List ℕ)) (piece₁ : Bor (List ℕ))
     → Read the_calls bs r log.now got.now
     → feed.Post κs (r, (log, (got, (piece, tt)))) z (r, (log₁, (got₁, (piece₁, tt)))) → z.refusal ≡ 0
 unfolding feed_answer

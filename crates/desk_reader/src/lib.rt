@@ -85,6 +85,7 @@ fn word_byte(key: Key, at: usize) -> u8
     }
 }
 
+#[tactic(auto, unfolding(crate::specs::Reader::first_byte))]
 fn first_byte(b: u8) -> Line
     ensures { result ≡ first_byte b }
 {
@@ -109,6 +110,7 @@ fn first_byte(b: u8) -> Line
     Line::Bad
 }
 
+#[tactic(auto, unfolding(crate::specs::Reader::word_byte))]
 fn next_in_word(key: Key, at: usize, b: u8) -> Line
     requires { at < length (word_of key) }
     ensures { result ≡ word_byte key at b }
@@ -120,6 +122,7 @@ fn next_in_word(key: Key, at: usize, b: u8) -> Line
     Line::Bad
 }
 
+#[tactic(auto, unfolding(crate::specs::Reader::first_digit))]
 fn first_digit(key: Key, b: u8) -> Line
     ensures { result ≡ first_digit key b }
 {
@@ -136,6 +139,7 @@ fn first_digit(key: Key, b: u8) -> Line
 }
 
 // A digit behind others that say `value`. Behind a leading zero there is none.
+#[tactic(auto, unfolding(crate::specs::Reader::next_digit))]
 fn next_digit(key: Key, value: u32, b: u8) -> Line
     ensures { result ≡ next_digit key value b }
 {
@@ -159,6 +163,7 @@ fn next_digit(key: Key, value: u32, b: u8) -> Line
 }
 
 // One byte of a line, not its LF.
+#[tactic(auto, unfolding(crate::specs::Reader::line_byte))]
 fn line_byte(l: Line, b: u8) -> Line
     ensures { result ≡ line_byte l b }
 {
@@ -176,6 +181,7 @@ fn line_byte(l: Line, b: u8) -> Line
 }
 
 // A desk without sketches: before the first line, or after a refusal.
+#[tactic(auto, unfolding(power_sum32::specs::Answers::new_of, rules::specs::Calls::make))]
 fn empty_desk(phase: Phase) -> Desk
     ensures { result ≡ empty_desk phase }
 {
@@ -309,6 +315,7 @@ fn got_line(d: Desk, got: &mut [u32], code: u32) -> Desk
 }
 
 // A whole line.
+#[tactic(auto, unfolding(crate::specs::Reader::take_line, crate::specs::Reader::taken_log, crate::specs::Reader::taken_got))]
 fn take_line(d: Desk, log: &mut [u32], got: &mut [u32], l: Line) -> Desk
     requires { (most_lines ≤ length log.old) × (most_lines ≤ length got.old) }
     ensures answer { result ≡ take_line d l }
@@ -358,6 +365,7 @@ pub fn start() -> Reading
 
 // The next piece of the input. The log's entries go to the front of `log` and the got codes to the front of `got`, each of which has a place for every
 // line that may come.
+#[tactic(auto, unfolding(crate::specs::Reader::feed_answer, crate::specs::Reader::feed_log, crate::specs::Reader::feed_got))]
 pub fn feed(r: Reading, log: &mut [u32], got: &mut [u32], piece: &[u8]) -> Fed
     ensures answer { result ≡ feed_answer r log.old got.old piece.now }
     ensures log { log.new ≡ feed_log r log.old got.old piece.now }
