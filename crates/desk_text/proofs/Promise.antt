@@ -9,6 +9,7 @@ use lib.ListN.{length, drop}
 use borrow.Author.Tests.{le-leb, lt-leb}
 use contract.Lifetimes.{Lfts}
 use denote.Ref.{Bor}
+use denote.MutBor.{MutBor}
 use Rattle.rules.specs.Kind.{kind32}
 use Rattle.rules.specs.Calls.{refused, fitting}
 use Rattle.desk_rules.specs.Text.{desk_answer}
@@ -26,7 +27,7 @@ use Rattle.desk_text.proofs.Meaning.{tied_finish}
 use Rattle.desk_text.proofs.answer.finish.Reads as finish
 
 -- A reading got by calls from these bytes, and what `finish` answers to it.
-module _ {bs : List ℕ} {r : Reading} {n : Number} (κs : Lfts 3) (log got out log₁ got₁ out₁ : Bor (List ℕ))
+module _ {bs : List ℕ} {r : Reading} {n : Number} (κs : Lfts 3) (log got : Bor (List ℕ)) (out : MutBor (List ℕ)) (log₁ got₁ : Bor (List ℕ)) (out₁ : MutBor (List ℕ))
     (read : Read the_calls bs r log.now got.now)
     (p : finish.Post κs (r, (log, (got, (out, tt)))) n (r, (log₁, (got₁, (out₁, tt))))) where
   -- It comes to the rules' answer, where that fits.

@@ -8,6 +8,7 @@ use lib.Dec.{lit≤}
 use lib.ListN.{length, get_or, replicate}
 use contract.Lifetimes.{Lfts}
 use denote.Ref.{Bor}
+use denote.MutBor.{MutBor}
 use Rattle.rules.specs.Kind.{kind32}
 use Rattle.rules.specs.Calls.{Outcome, refused, given, written, fitting}
 use Rattle.desk_rules.specs.Lines.{bytes_of}
@@ -30,7 +31,7 @@ ten_only ten =
     (λ p. differs (λ (n : Number). n.refusal) (numbered (refused 1)) refl (ten _ p), λ p. differs (λ (n : Number). n.value) (counted 0) refl (ten _ p))
 
 -- The answer to a threshold of 0.
-module _ (κs : Lfts 2) (input out input₁ out₁ : Bor (List ℕ)) (the-input : input.now ≡ bytes_of "threshold=0\n") (lent : out.now ≡ replicate 20 0) where
+module _ (κs : Lfts 2) (input : Bor (List ℕ)) (out : MutBor (List ℕ)) (input₁ : Bor (List ℕ)) (out₁ : MutBor (List ℕ)) (the-input : input.now ≡ bytes_of "threshold=0\n") (lent : out.now ≡ replicate 20 0) where
   -- What the contract of `answer` allows.
   abbrev Allowed : Number → Type 0
   Allowed n = answer.Post κs (input, (out, tt)) n (input₁, (out₁, tt))
@@ -47,10 +48,10 @@ module _ (κs : Lfts 2) (input out input₁ out₁ : Bor (List ℕ)) (the-input 
   answer_wrong = ten_only ten_bytes
 
 -- The answer to two got codes without a log line, into a buffer as long as it.
-module _ (κs : Lfts 2) (input out input₁ : Bor (List ℕ)) (the-input : input.now ≡ bytes_of "threshold=2\ngot=10\ngot=2\n")
+module _ (κs : Lfts 2) (input : Bor (List ℕ)) (out : MutBor (List ℕ)) (input₁ : Bor (List ℕ)) (the-input : input.now ≡ bytes_of "threshold=2\ngot=10\ngot=2\n")
     (lent : out.now ≡ replicate 60 0) where
   -- What the contract of `answer` allows.
-  abbrev AllowedSurplus : Number → Bor (List ℕ) → Type 0
+  abbrev AllowedSurplus : Number → MutBor (List ℕ) → Type 0
   AllowedSurplus n out₁ = answer.Post κs (input, (out, tt)) n (input₁, (out₁, tt))
 
   -- What it comes to.
@@ -60,11 +61,11 @@ module _ (κs : Lfts 2) (input out input₁ : Bor (List ℕ)) (the-input : input
       ap₂ (λ (i o : List ℕ). fitting (desk_answer kind32 i) (length o)) the-input lent ∙ ap (λ (text : List ℕ). fitting text 60) examples.15
 
   -- The answer is sixty bytes long.
-  sixty_bytes : (n : Number) (out₁ : Bor (List ℕ)) → AllowedSurplus n out₁ → n ≡ counted 60
+  sixty_bytes : (n : Number) (out₁ : MutBor (List ℕ)) → AllowedSurplus n out₁ → n ≡ counted 60
   sixty_bytes n out₁ p = p.0 ∙ ap numbered surplus_told
 
   -- They are these.
-  sixty_are : (n : Number) (out₁ : Bor (List ℕ)) → AllowedSurplus n out₁
+  sixty_are : (n : Number) (out₁ : MutBor (List ℕ)) → AllowedSurplus n out₁
       → out₁.now ≡ bytes_of "refusal=0\nthreshold=2\ncount=-2\nfound=2\nsurplus=10\nsurplus=2\n"
   sixty_are n out₁ p = p.1.0 ∙ ap₂ (λ (o : Outcome (List ℕ)) (l : List ℕ). written o l) surplus_told lent
 
@@ -77,7 +78,7 @@ module _ (κs : Lfts 2) (input out input₁ : Bor (List ℕ)) (the-input : input
   )
 
 -- The answer to no input.
-module _ (κs : Lfts 3) (r : Reading) (log got out log₁ got₁ out₁ : Bor (List ℕ)) (begun : Read the_calls [] r log.now got.now)
+module _ (κs : Lfts 3) (r : Reading) (log got : Bor (List ℕ)) (out : MutBor (List ℕ)) (log₁ got₁ : Bor (List ℕ)) (out₁ : MutBor (List ℕ)) (begun : Read the_calls [] r log.now got.now)
     (lent : out.now ≡ replicate 20 0) where
   -- What the contract of `finish` allows.
   abbrev AllowedAtEnd : Number → Type 0

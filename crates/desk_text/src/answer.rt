@@ -106,6 +106,7 @@ fn end(r: Reading, log: &[u32], got: &[u32], out: &mut [u8]) -> Number
 }
 
 // Both lent lists have a place for each line that may come, and the reading claims no more entries and no more got codes than that.
+#[tactic(auto, unfolding(crate::specs::Answer::in_bounds))]
 fn in_bounds(d: Desk, log: &[u32], got: &[u32]) -> bool
     ensures { result ≡ in_bounds d log.now got.now }
 {
