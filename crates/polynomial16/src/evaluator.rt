@@ -33,7 +33,7 @@ pub fn value(coeffs: &[Word], x: Residue) -> Residue
 
 // A value, or the number of a refusal and 0.
 #[repr(C)]
-#[derive(Drop)]
+#[derive(Clone, Copy)]
 pub struct Evaluated {
     pub refusal: u32,
     pub value: Residue,
