@@ -1,7 +1,7 @@
 -- Every call of the sketch determines its answer, its refusal, and what it leaves in a buffer that it was lent: any two outcomes that its contract allows
 -- for one input are equal. The calls in place stand in InPlace.
 -- Assumes nothing.
-use Rattle.std.proofs.Common.{ℕ, List, Bor}
+use Rattle.std.proofs.Common.{ℕ, List, Bor, MutBor}
 use contract.Lifetimes.{Lfts}
 use Rattle.modint16.specs.declared.Code.{Code}
 use Rattle.rules.specs.Determines.{Holds, Determines, DeterminesBoth}
@@ -75,24 +75,24 @@ module _ (s : PowerSumQuackU16) where
   negate_determined = by_equation _
 
   -- The coefficients of a sketch have one answer, and leave one list of numbers in the buffer.
-  pub to_coeffs_determined : (κs : Lfts 1) (buf : Bor (List ℕ)) → DeterminesBoth (λ r buf₁. to_coeffs.Post κs (s, (buf, tt)) r (s, (buf₁, tt)))
+  pub to_coeffs_determined : (κs : Lfts 1) (buf : MutBor (List ℕ)) → DeterminesBoth (λ r buf₁. to_coeffs.Post κs (s, (buf, tt)) r (s, (buf₁, tt)))
   to_coeffs_determined κs buf = by_equations _ _
 
   -- Decoding a log has one answer, and leaves one list of entries in the buffer.
-  pub decode_with_log_determined : (κs : Lfts 2) (log log₁ out : Bor (List ℕ))
+  pub decode_with_log_determined : (κs : Lfts 2) (log log₁ : Bor (List ℕ)) (out : MutBor (List ℕ))
       → DeterminesBoth (λ r out₁. decode_with_log.Post κs (s, (log, (out, tt))) r (s, (log₁, (out₁, tt))))
   decode_with_log_determined κs log log₁ out = by_equations _ _
 
   -- Decoding the surplus has one answer, and leaves one list of codes in the buffer.
-  pub decode_surplus_with_log_determined : (κs : Lfts 2) (got got₁ out : Bor (List ℕ))
+  pub decode_surplus_with_log_determined : (κs : Lfts 2) (got got₁ : Bor (List ℕ)) (out : MutBor (List ℕ))
       → DeterminesBoth (λ r out₁. decode_surplus_with_log.Post κs (s, (got, (out, tt))) r (s, (got₁, (out₁, tt))))
   decode_surplus_with_log_determined κs got got₁ out = by_equations _ _
 
   -- Writing a packet has one answer, and leaves one list of bytes.
-  pub serialize_determined : (κs : Lfts 1) (buf : Bor (List ℕ)) → DeterminesBoth (λ r buf₁. serialize.Post κs (s, (buf, tt)) r (s, (buf₁, tt)))
+  pub serialize_determined : (κs : Lfts 1) (buf : MutBor (List ℕ)) → DeterminesBoth (λ r buf₁. serialize.Post κs (s, (buf, tt)) r (s, (buf₁, tt)))
   serialize_determined κs buf = by_equations _ _
 
   -- Writing a packet with a hint has one answer, and leaves one list of bytes.
-  pub serialize_with_hint_determined : (κs : Lfts 1) (buf : Bor (List ℕ)) (h : ℕ)
+  pub serialize_with_hint_determined : (κs : Lfts 1) (buf : MutBor (List ℕ)) (h : ℕ)
       → DeterminesBoth (λ r buf₁. serialize_with_hint.Post κs (s, (buf, (h, tt))) r (s, (buf₁, (h, tt))))
   serialize_with_hint_determined κs buf h = by_equations _ _

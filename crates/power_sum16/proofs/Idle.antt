@@ -1,7 +1,7 @@
 -- Idle programs: no contract here is met by refusing everything, by an insertion that does nothing or works only for the first code, or by a fixed list,
 -- shown by an input at which the rule's answer differs.
 -- Assumes nothing.
-use Rattle.std.proofs.Common.{◌≡◌, ℕ, cond, eqb, List, [], ◌∷◌, map, get_or, replicate, sym, refl, ◌∙◌, Bor}
+use Rattle.std.proofs.Common.{◌≡◌, ℕ, cond, eqb, List, [], ◌∷◌, map, get_or, replicate, sym, refl, ◌∙◌, Bor, MutBor}
 use contract.Lifetimes.{Lfts}
 use Rattle.numbers.specs.Power.{power_mod, power_within}
 use Rattle.numbers.specs.Table.{every}
@@ -15,7 +15,7 @@ use Rattle.rules.specs.Packet.{bytes, number, all_bytes, all_numbers, packet, pa
 use Rattle.rules.specs.Decode as decoding
 use Rattle.rules.specs.Calls as calls
 use Rattle.rules.specs.Determines.{Holds, MustAnswer}
-use Rattle.rules.proofs.Determined.{lent, differs, must_answer}
+use Rattle.rules.proofs.Determined.{lent, lent_mut, differs, must_answer}
 use Rattle.lent.specs.declared.Number.{Number}
 use Rattle.power_sum16.specs.declared.power_sum.PowerSumQuackU16.{PowerSumQuackU16}
 use Rattle.power_sum16.specs.declared.power_sum.Answer.{Answer}
@@ -95,20 +95,20 @@ unfolding sketch.insert fresh each every well_formed negate_of calls.negate sket
 negate_must_answer = must_answer refusal refl
 
 -- Coefficients, into two places.
-pub to_coeffs_must_answer : (κs : Lfts 1) (buf₁ : Bor (List ℕ))
-    → MustAnswer refused (λ r. to_coeffs.Post κs (both, (lent (0 ∷ 0 ∷ []), tt)) r (both, (buf₁, tt)))
+pub to_coeffs_must_answer : (κs : Lfts 1) (buf₁ : MutBor (List ℕ))
+    → MustAnswer refused (λ r. to_coeffs.Post κs (both, (lent_mut (0 ∷ 0 ∷ []), tt)) r (both, (buf₁, tt)))
 unfolding sketch.insert fresh each every well_formed coefficients_of calls.coefficients
 to_coeffs_must_answer κs buf₁ a t p = must_answer refused refl a t p.0
 
 -- Writing, into 20 bytes.
-pub serialize_must_answer : (κs : Lfts 1) (buf₁ : Bor (List ℕ))
-    → MustAnswer refused (λ r. serialize.Post κs (both, (lent (replicate 20 0), tt)) r (both, (buf₁, tt)))
+pub serialize_must_answer : (κs : Lfts 1) (buf₁ : MutBor (List ℕ))
+    → MustAnswer refused (λ r. serialize.Post κs (both, (lent_mut (replicate 20 0), tt)) r (both, (buf₁, tt)))
 unfolding sketch.insert fresh each every well_formed write_of calls.write packet bytes all_bytes
 serialize_must_answer κs buf₁ a t p = must_answer refused refl a t p.0
 
 -- Writing with the hint 2 into 20 bytes is not refused.
-pub serialize_with_hint_must_answer : (κs : Lfts 1) (buf₁ : Bor (List ℕ))
-    → MustAnswer refused (λ r. serialize_with_hint.Post κs (both, (lent (replicate 20 0), (2, tt))) r (both, (buf₁, (2, tt))))
+pub serialize_with_hint_must_answer : (κs : Lfts 1) (buf₁ : MutBor (List ℕ))
+    → MustAnswer refused (λ r. serialize_with_hint.Post κs (both, (lent_mut (replicate 20 0), (2, tt))) r (both, (buf₁, (2, tt))))
 unfolding sketch.insert fresh each every well_formed write_with_hint_of calls.write_with_hint packet bytes all_bytes
 serialize_with_hint_must_answer κs buf₁ a t p = must_answer refused refl a t p.0
 
@@ -138,16 +138,16 @@ first_only_falls p = differs first_sum (answered 0 (built (sketch.insert kind16 
 
 module _ (κs : Lfts 2) (log₁ : Bor (List ℕ)) where
   -- What decoding has to show of an answer and of the buffer.
-  abbrev Decoded : Number → Bor (List ℕ) → Type 0
-  Decoded r out₁ = decode_with_log.Post κs (both, (lent (1 ∷ 10 ∷ []), (lent (0 ∷ 0 ∷ []), tt))) r (both, (log₁, (out₁, tt)))
+  abbrev Decoded : Number → MutBor (List ℕ) → Type 0
+  Decoded r out₁ = decode_with_log.Post κs (both, (lent (1 ∷ 10 ∷ []), (lent_mut (0 ∷ 0 ∷ []), tt))) r (both, (log₁, (out₁, tt)))
 
   -- Decoding is not refused.
-  pub decode_must_answer : (out₁ : Bor (List ℕ)) → MustAnswer refused (λ r. Decoded r out₁)
+  pub decode_must_answer : (out₁ : MutBor (List ℕ)) → MustAnswer refused (λ r. Decoded r out₁)
   unfolding sketch.insert fresh each every well_formed decode_of calls.decode
   decode_must_answer out₁ a t p = must_answer refused refl a t p.0
 
   -- The empty list leaves the buffer as it was, and the whole log fills it.
-  pub fixed_list_falls : (r : Number) (out₁ : Bor (List ℕ)) → Decoded r out₁ → (out₁.now ≡ 0 ∷ 0 ∷ [] → ⊥) × (out₁.now ≡ 1 ∷ 10 ∷ [] → ⊥)
+  pub fixed_list_falls : (r : Number) (out₁ : MutBor (List ℕ)) → Decoded r out₁ → (out₁.now ≡ 0 ∷ 0 ∷ [] → ⊥) × (out₁.now ≡ 1 ∷ 10 ∷ [] → ⊥)
   unfolding sketch.insert fresh each every well_formed decode_of calls.decode decoding.decode decoding.coefficients decoding.evaluate decoding.newest_first
       power_mod power_within
   fixed_list_falls r out₁ p =
@@ -157,16 +157,16 @@ module _ (κs : Lfts 2) (log₁ : Bor (List ℕ)) where
 
 module _ (κs : Lfts 2) (got₁ : Bor (List ℕ)) where
   -- What decoding the surplus of a sketch has to show of an answer and of the buffer.
-  abbrev Surplus : PowerSumQuackU16 → Number → Bor (List ℕ) → Type 0
-  Surplus s r out₁ = decode_surplus_with_log.Post κs (s, (lent (1 ∷ 10 ∷ []), (lent (0 ∷ 0 ∷ []), tt))) r (s, (got₁, (out₁, tt)))
+  abbrev Surplus : PowerSumQuackU16 → Number → MutBor (List ℕ) → Type 0
+  Surplus s r out₁ = decode_surplus_with_log.Post κs (s, (lent (1 ∷ 10 ∷ []), (lent_mut (0 ∷ 0 ∷ []), tt))) r (s, (got₁, (out₁, tt)))
 
   -- It is not refused, with a count below zero or above.
-  pub surplus_must_answer : (out₁ : Bor (List ℕ)) → MustAnswer refused (λ r. Surplus gone r out₁) × MustAnswer refused (λ r. Surplus both r out₁)
+  pub surplus_must_answer : (out₁ : MutBor (List ℕ)) → MustAnswer refused (λ r. Surplus gone r out₁) × MustAnswer refused (λ r. Surplus both r out₁)
   unfolding sketch.insert sketch.remove fresh each every well_formed signed_count decode_surplus_of calls.decode_surplus
   surplus_must_answer out₁ = (λ a t p. must_answer refused refl a t p.0, λ a t p. must_answer refused refl a t p.0)
 
   -- The empty list leaves the buffer as it was, and all got codes fill it.
-  pub fixed_surplus_falls : (r : Number) (out₁ : Bor (List ℕ)) → Surplus gone r out₁ → (out₁.now ≡ 0 ∷ 0 ∷ [] → ⊥) × (out₁.now ≡ 1 ∷ 10 ∷ [] → ⊥)
+  pub fixed_surplus_falls : (r : Number) (out₁ : MutBor (List ℕ)) → Surplus gone r out₁ → (out₁.now ≡ 0 ∷ 0 ∷ [] → ⊥) × (out₁.now ≡ 1 ∷ 10 ∷ [] → ⊥)
   unfolding sketch.remove sketch.negate fresh each every well_formed signed_count decode_surplus_of calls.decode_surplus decoding.surplus decoding.decode
       decoding.coefficients decoding.evaluate decoding.newest_first power_mod power_within
   fixed_surplus_falls r out₁ p =

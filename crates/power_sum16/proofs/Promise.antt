@@ -1,7 +1,7 @@
 -- The promise for the calls that run: along any history none of whose calls is refused, the list that `decode_with_log` leaves in the buffer that it was
 -- lent is exact, and so, with the roles changed, is that of `decode_surplus_with_log`. What a call answers is whatever its contract allows.
 -- Assumes nothing.
-use Rattle.std.proofs.Common.{◌≡◌, ℕ, ◌*◌, ◌≤◌, true, ◌⊎◌, List, ◌++◌, length, take, drop, ℤ, pos, neg_ℤ, sym, refl, ap, ◌∙◌, ⊎_elim, Bor, eq-eqb}
+use Rattle.std.proofs.Common.{◌≡◌, ℕ, ◌*◌, ◌≤◌, true, ◌⊎◌, List, ◌++◌, length, take, drop, ℤ, pos, neg_ℤ, sym, refl, ap, ◌∙◌, ⊎_elim, Bor, MutBor, eq-eqb}
 use mathlib.Core.Bool.{false≢true}
 use contract.Lifetimes.{Lfts}
 use Rattle.modint16.specs.declared.Code.{Code}
@@ -19,7 +19,7 @@ use Rattle.rules.proofs.Run as run
 use Rattle.rules.proofs.Run.{Gives, Sound}
 use Rattle.lent.specs.declared.Number.{Number}
 use Rattle.lent.specs.Answers.{counted}
-use Rattle.lent.proofs.Lists.{Holds}
+use Rattle.lent.proofs.Lists.{holds}
 use Rattle.lent.proofs.Types.{Promised}
 use Rattle.power_sum16.specs.declared.power_sum.PowerSumQuackU16.{PowerSumQuackU16}
 use Rattle.power_sum16.specs.declared.power_sum.Answer.{Answer}
@@ -44,8 +44,8 @@ use Rattle.power_sum16.proofs.power_sum.PowerSumQuackU16.deserialize.Reads as de
 -- A sketch is written, and its written bytes alone are bs.
 pub record Wrote (s : PowerSumQuackU16) (bs : List ℕ) : Type 0 where
   pub κs : Lfts 1
-  pub buf : Bor (List ℕ)
-  pub buf₁ : Bor (List ℕ)
+  pub buf : MutBor (List ℕ)
+  pub buf₁ : MutBor (List ℕ)
   pub n : ℕ
   pub promised : serialize.Post κs (s, (buf, tt)) (counted n) (s, (buf₁, tt))
   pub bytes : bs ≡ take n buf₁.now
@@ -53,8 +53,8 @@ pub record Wrote (s : PowerSumQuackU16) (bs : List ℕ) : Type 0 where
 -- The same with the hint m.
 pub record WroteWithHint (s : PowerSumQuackU16) (m : ℕ) (bs : List ℕ) : Type 0 where
   pub κs : Lfts 1
-  pub buf : Bor (List ℕ)
-  pub buf₁ : Bor (List ℕ)
+  pub buf : MutBor (List ℕ)
+  pub buf₁ : MutBor (List ℕ)
   pub n : ℕ
   pub promised : serialize_with_hint.Post κs (s, (buf, (m, tt))) (counted n) (s, (buf₁, (m, tt)))
   pub bytes : bs ≡ take n buf₁.now
@@ -70,7 +70,7 @@ pub record Read (bs : List ℕ) (s : PowerSumQuackU16) : Type 0 where
 -- What a contract promises of a call that is lent entries to read and a buffer for those that it lists: the entries and the buffer before and after, and the
 -- answer.
 abbrev pub Lists : Type 1
-Lists = Lfts 2 → Bor (List ℕ) → Bor (List ℕ) → Bor (List ℕ) → Bor (List ℕ) → Number → Type 0
+Lists = Lfts 2 → Bor (List ℕ) → Bor (List ℕ) → MutBor (List ℕ) → MutBor (List ℕ) → Number → Type 0
 
 -- Decoding a log by a sketch.
 abbrev pub decoding : PowerSumQuackU16 → Lists
@@ -85,15 +85,15 @@ pub record Listed (promises : Lists) (entries out : List ℕ) (r n : ℕ) (out�
   pub κs : Lfts 2
   pub entries_lent : Bor (List ℕ)
   pub entries_lent₁ : Bor (List ℕ)
-  pub out_lent : Bor (List ℕ)
-  pub out_lent₁ : Bor (List ℕ)
+  pub out_lent : MutBor (List ℕ)
+  pub out_lent₁ : MutBor (List ℕ)
   pub the_entries : entries_lent.now ≡ entries
   pub the_buffer : out_lent.now ≡ out
   pub left : out_lent₁.now ≡ out₁
   pub promised : promises κs entries_lent entries_lent₁ out_lent out_lent₁ (record { refusal = r; value = n })
 
 -- A promise met by some call is such a list.
-listed : {promises : Lists} (κs : Lfts 2) (entries entries₁ out out₁ : Bor (List ℕ)) (r : Number) → promises κs entries entries₁ out out₁ r
+listed : {promises : Lists} (κs : Lfts 2) (entries entries₁ : Bor (List ℕ)) (out out₁ : MutBor (List ℕ)) (r : Number) → promises κs entries entries₁ out out₁ r
     → Listed promises entries.now out.now r.refusal r.value out₁.now
 listed κs entries entries₁ out out₁ r p = record {
   κs = κs;
@@ -150,10 +150,10 @@ sound = record {
   subtracts_in_place = λ s o s' p. gives s _ (sub_assign_numbered kind16 _ (view s) (view o)) s' p;
   subtracts = λ s o s' p. gives s _ (sub_numbered kind16 _ (view s) (view o)) s' p;
   writes = λ s bs p.
-      let h = Holds _ (write_numbered kind16 (well_formed_of s) (view s) (length p.buf.now)) p.buf.now p.promised.0 refl p.promised.1 in
+      let h = holds _ (write_numbered kind16 (well_formed_of s) (view s) (length p.buf.now)) p.buf.now p.promised.0 refl p.promised.1 in
       (length p.buf.now, h.comes ∙ ap given (sym (p.bytes ∙ h.front)));
   writes_with_hint = λ s m bs p.
-      let h = Holds _ (hint_numbered kind16 (well_formed_of s) (view s) m (length p.buf.now)) p.buf.now p.promised.0 refl p.promised.1 in
+      let h = holds _ (hint_numbered kind16 (well_formed_of s) (view s) m (length p.buf.now)) p.buf.now p.promised.0 refl p.promised.1 in
       (length p.buf.now, h.comes ∙ ap given (sym (p.bytes ∙ h.front)));
   reads = λ bs s p. gives empty _ (read_numbered kind16 bs) s (rw p.bytes at p.promised);
   decodes = λ s log out r n out₁ p.
@@ -177,7 +177,7 @@ count_exact ran left = run.count_exact kind16 the_calls sound ran left
 -- Decoding any log, with room for it, is not refused, answers how many entries are missing, and leaves exactly them at the front of the lent buffer;
 -- the buffer's later places are as they were.
 pub decode_exact : {h : History} {s : PowerSumQuackU16} {n : ℕ} → Ran the_calls h s → LeftIn kind16 h s.threshold n
-    → (κs : Lfts 2) (log log₁ out out₁ : Bor (List ℕ)) (r : Number) → length log.now ≤ length out.now
+    → (κs : Lfts 2) (log log₁ : Bor (List ℕ)) (out out₁ : MutBor (List ℕ)) (r : Number) → length log.now ≤ length out.now
     → decode_with_log.Post κs (s, (log, (out, tt))) r (s, (log₁, (out₁, tt)))
     → (r ≡ counted (length (missing kind16 h log.now)))
     × (out₁.now ≡ missing kind16 h log.now ++ drop (length (missing kind16 h log.now)) out.now)
@@ -200,7 +200,7 @@ signed_exact ran over r p = p ∙ run.signed_exact kind16 the_calls sound ran ov
 -- Decoding the surplus among any got codes, with room for them, is not refused, answers how many of them are surplus, and leaves exactly those at the
 -- front of the lent buffer; the buffer's later places are as they were.
 pub surplus_exact : {h : History} {s : PowerSumQuackU16} {n : ℕ} → Ran the_calls h s → ExceedsIn kind16 h s.threshold n
-    → (κs : Lfts 2) (got got₁ out out₁ : Bor (List ℕ)) (r : Number) → length got.now ≤ length out.now
+    → (κs : Lfts 2) (got got₁ : Bor (List ℕ)) (out out₁ : MutBor (List ℕ)) (r : Number) → length got.now ≤ length out.now
     → decode_surplus_with_log.Post κs (s, (got, (out, tt))) r (s, (got₁, (out₁, tt)))
     → (r ≡ counted (length (surplus_among kind16 h got.now)))
     × (out₁.now ≡ surplus_among kind16 h got.now ++ drop (length (surplus_among kind16 h got.now)) out.now)

@@ -14,7 +14,7 @@ use Rattle.rules.specs.Packet.{bytes, number, all_bytes, all_numbers, packet, pa
 use Rattle.rules.specs.Decode as decoding
 use Rattle.rules.specs.Calls as calls
 use Rattle.rules.specs.Determines.{Holds, RefusesBoth, RefusesEither}
-use Rattle.rules.proofs.Determined.{lent, differs, both_differ, either_differs}
+use Rattle.rules.proofs.Determined.{lent, lent_mut, differs, both_differ, either_differs}
 use Rattle.lent.specs.declared.Number.{Number}
 use Rattle.lent.specs.Answers.{counted}
 use Rattle.lent.proofs.Types.{Promised}
@@ -178,13 +178,13 @@ negate_wrong = both_differ last_of _ _ refl refl
 
 -- One coefficient is counted, or they stand the other way round.
 pub to_coeffs_wrong : (κs : Lfts 1)
-    → RefusesEither (λ r buf₁. to_coeffs.Post κs (both, (lent (0 ∷ 0 ∷ []), tt)) r (both, (buf₁, tt))) (counted 1) (120 ∷ 65499 ∷ [])
+    → RefusesEither (λ r buf₁. to_coeffs.Post κs (both, (lent_mut (0 ∷ 0 ∷ []), tt)) r (both, (buf₁, tt))) (counted 1) (120 ∷ 65499 ∷ [])
 unfolding fresh each every well_formed sketch.insert coefficients_of calls.coefficients decoding.coefficients decoding.newest_first power_mod power_within
 to_coeffs_wrong κs = either_differs many first _ _ refl refl
 
 -- Both entries are counted, or the other one is listed.
 pub decode_with_log_wrong : (κs : Lfts 2) (log₁ : Bor (List ℕ))
-    → RefusesEither (λ r out₁. decode_with_log.Post κs (both, (lent (1 ∷ 10 ∷ []), (lent (0 ∷ 0 ∷ []), tt))) r (both, (log₁, (out₁, tt)))) (counted 2)
+    → RefusesEither (λ r out₁. decode_with_log.Post κs (both, (lent (1 ∷ 10 ∷ []), (lent_mut (0 ∷ 0 ∷ []), tt))) r (both, (log₁, (out₁, tt)))) (counted 2)
     (1 ∷ 0 ∷ [])
 unfolding fresh each every well_formed sketch.insert decode_of calls.decode decoding.decode decoding.coefficients decoding.evaluate decoding.newest_first
     power_mod power_within
@@ -192,8 +192,8 @@ decode_with_log_wrong κs log₁ = either_differs many first _ _ refl refl
 
 -- Both codes are counted, or the other one is listed.
 pub decode_surplus_with_log_wrong : (κs : Lfts 2) (got₁ : Bor (List ℕ))
-    → RefusesEither (λ r out₁. decode_surplus_with_log.Post κs (gone, (lent (1 ∷ 10 ∷ []), (lent (0 ∷ 0 ∷ []), tt))) r (gone, (got₁, (out₁, tt)))) (counted 2)
-    (1 ∷ 0 ∷ [])
+    → RefusesEither (λ r out₁. decode_surplus_with_log.Post κs (gone, (lent (1 ∷ 10 ∷ []), (lent_mut (0 ∷ 0 ∷ []), tt))) r (gone, (got₁, (out₁, tt))))
+    (counted 2) (1 ∷ 0 ∷ [])
 unfolding fresh each every well_formed sketch.remove sketch.negate signed_count decode_surplus_of calls.decode_surplus decoding.surplus decoding.decode
     decoding.coefficients decoding.evaluate decoding.newest_first power_mod power_within
 decode_surplus_with_log_wrong κs got₁ = either_differs many first _ _ refl refl
@@ -202,14 +202,14 @@ decode_surplus_with_log_wrong κs got₁ = either_differs many first _ _ refl re
 
 -- One byte too few is counted, or the count's highest byte comes first.
 pub serialize_wrong : (κs : Lfts 1)
-    → RefusesEither (λ r buf₁. serialize.Post κs (both, (lent (replicate (packet_length kind16 3) 0), tt)) r (both, (buf₁, tt)))
+    → RefusesEither (λ r buf₁. serialize.Post κs (both, (lent_mut (replicate (packet_length kind16 3) 0), tt)) r (both, (buf₁, tt)))
     (counted (packet_length kind16 3 - 1)) (0 ∷ 0 ∷ 0 ∷ 2 ∷ replicate (packet_length kind16 3 - 4) 0)
 unfolding fresh each every well_formed sketch.insert write_of calls.write packet bytes all_bytes
 serialize_wrong κs = either_differs many first _ _ refl refl
 
 -- Every sum is written in spite of the hint, or the hint is the count.
 pub serialize_with_hint_wrong : (κs : Lfts 1)
-    → RefusesEither (λ r buf₁. serialize_with_hint.Post κs (both, (lent (replicate (packet_length kind16 3) 0), (1, tt))) r (both, (buf₁, (1, tt))))
+    → RefusesEither (λ r buf₁. serialize_with_hint.Post κs (both, (lent_mut (replicate (packet_length kind16 3) 0), (1, tt))) r (both, (buf₁, (1, tt))))
     (counted (packet_length kind16 3)) (1 ∷ replicate (packet_length kind16 3 - 1) 0)
 unfolding fresh each every well_formed sketch.insert write_with_hint_of calls.write_with_hint packet bytes all_bytes
 serialize_with_hint_wrong κs = either_differs many first _ _ refl refl

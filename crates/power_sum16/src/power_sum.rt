@@ -10,14 +10,14 @@ use modint16::{Code, PLACES, Residue, Word};
 use sums16::{places, powers};
 
 // The last code that was inserted, or none.
-#[derive(Drop)]
+#[derive(Clone, Copy)]
 pub enum Last {
     Nothing,
     Code(Residue),
 }
 
 // The sums stand in the first `threshold` places; the further places hold 0.
-#[derive(Drop)]
+#[derive(Clone, Copy)]
 pub struct PowerSumQuackU16 {
     pub threshold: usize,
     pub sums: [Residue; PLACES],
@@ -26,7 +26,7 @@ pub struct PowerSumQuackU16 {
 }
 
 // A sketch, or the number of a refusal and the sketch given.
-#[derive(Drop)]
+#[derive(Clone, Copy)]
 pub struct Answer {
     pub refusal: u32,
     pub sketch: PowerSumQuackU16,

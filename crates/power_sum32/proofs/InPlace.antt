@@ -1,49 +1,44 @@
--- The calls on a lent sketch: the types that their walks share, and that each call determines its answer and the sketch that it leaves.
+-- The calls on a lent sketch: what each promises of its refusal and of the sketch that it leaves, and that it determines both.
 -- Assumes nothing.
 use Rattle.std.proofs.Common.{◌≡◌, refl}
 use seplogic.Ra.Ura.{Ura}
-use base.Logic.{SProp}
+use base.Logic.{SProp, emp}
 use prog.Memory.{Memory}
 use prog.Routine.{Routine}
-use types.Logic.{Logic}
-use contract.Monad.{Fun}
+use package.types.Logic.{Logic}
+use contract.Monad.{Fun, fact}
+use denote.Triple.Clauses.{Clauses}
 use Rattle.modint32.specs.declared.Code.{Code}
-use Rattle.modint32.specs.contracts.Code as D
-use Rattle.modint32.proofs.Code.TheLaws as D'
 use Rattle.rules.specs.Determines.{Determines}
 use Rattle.rules.proofs.Determined.{by_equation}
-use Rattle.lent.proofs.Types.{Types, Promised, promises, determined}
+use Rattle.lent.proofs.Types.{Types, Promised, determined}
 use Rattle.power_sum32.specs.declared.power_sum.PowerSumQuackU32.{PowerSumQuackU32}
 use Rattle.power_sum32.specs.declared.power_sum.Answer.{Answer}
 use Rattle.power_sum32.specs.Answers.{insert_of, remove_of}
-use Rattle.power_sum32.specs.contracts.power_sum.PowerSumQuackU32 as T
-use Rattle.power_sum32.proofs.power_sum.PowerSumQuackU32.TheLaws as T'
 use Rattle.power_sum32.specs.contracts.power_sum.PowerSumQuackU32.insert_in_place as insert
 use Rattle.power_sum32.specs.contracts.power_sum.PowerSumQuackU32.remove_in_place as remove
 use Rattle.power_sum32.proofs.power_sum.PowerSumQuackU32.insert_once.Reads as insert_once
 use Rattle.power_sum32.proofs.power_sum.PowerSumQuackU32.remove_once.Reads as remove_once
-use Rattle.power_sum32.specs.contracts.power_sum.Answer as B
 
 -- The types of the calls on 32-bit codes.
 abbrev pub types : Types
-types = record {
-  sketch = record { type = T.the_type; laws = T'.the_laws; plain = T'.the_plain };
-  lowered = T'.lowers;
-  code = record { type = D.the_type; laws = D'.the_laws; plain = D'.the_plain };
-  Answer = Answer;
-  name = (B.the_type).name;
-  refusal = λ a. a.refusal;
-  after = λ a. a.sketch;
-  one = (B.the_type).to_one;
+types = record { Sketch = PowerSumQuackU32; Answer = Answer; refusal = λ a. a.refusal; after = λ a. a.sketch }
+
+-- In place, a call asks for nothing, and promises of its refusal and of the sketch that it leaves what the rule says.
+abbrev pub promises : (PowerSumQuackU32 → Code → Answer) → {M : Type 1} (𝓤 : Ura M) → Clauses 𝓤 insert.ended
+promises rule 𝓤 κs a = record {
+  ghost = Unit {0};
+  requires = λ _. emp 𝓤;
+  ensures = λ _ r e. fact 𝓤 (Promised types (rule a.0.now a.1.0) (r, e.0.now));
 }
 
 module _ {M : Type 1} {𝓤 : Ura M} (𝓛 : Logic 𝓤) (at_mem : Memory → SProp 𝓤) (run : Routine → Fun 𝓤) where
   -- Insert in place promises what the rule of insert answers, and nothing else.
-  pub insert_promises : insert.clauses 𝓛 at_mem run ≡ promises types insert_of 𝓤
+  pub insert_promises : insert.clauses 𝓛 at_mem run ≡ promises insert_of 𝓤
   insert_promises = refl
 
   -- Remove in place promises what the rule of remove answers, and nothing else.
-  pub remove_promises : remove.clauses 𝓛 at_mem run ≡ promises types remove_of 𝓤
+  pub remove_promises : remove.clauses 𝓛 at_mem run ≡ promises remove_of 𝓤
   remove_promises = refl
 
 -- Insert in place determines its refusal and the sketch that it leaves.

@@ -1,7 +1,7 @@
 -- The promise for the calls that run, applied at its limit: a history with a removal before its insertion, both subtractions and a packet with a hint, whose
 -- sketch keeps two sums and lacks exactly two codes. So its premises can be met, and one that asked for more would not be met here.
 -- Assumes nothing.
-use Rattle.std.proofs.Common.{◌≡◌, ℕ, ◌-◌, List, [], ◌∷◌, ◌++◌, replicate, ℤ, negsuc, refl, inl, inr, arith, lit≤, Bor}
+use Rattle.std.proofs.Common.{◌≡◌, ℕ, ◌-◌, List, [], ◌∷◌, ◌++◌, replicate, ℤ, negsuc, refl, inl, inr, arith, lit≤, Bor, MutBor}
 use contract.Lifetimes.{Lfts}
 use Rattle.numbers.specs.Table.{every}
 use Rattle.newton.specs.Members.{AllBelow}
@@ -14,7 +14,7 @@ use Rattle.rules.specs.History as history
 use Rattle.rules.specs.History.{History, net, excess}
 use Rattle.rules.specs.Run.{Ran, made, inserted, removed, subtracted_in_place, subtracted, carried_by_hint, LeftIn, ExceedsIn}
 use Rattle.rules.proofs.Each.{every_below}
-use Rattle.rules.proofs.Determined.{lent}
+use Rattle.rules.proofs.Determined.{lent, lent_mut}
 use Rattle.lent.specs.declared.Number.{Number}
 use Rattle.lent.specs.Answers.{counted}
 use Rattle.power_sum32.specs.declared.power_sum.PowerSumQuackU32.{PowerSumQuackU32}
@@ -65,7 +65,7 @@ ran κs =
     (inserted (code 5) (removed (code 5) (made 3 refl) (inl refl)) (inr (refl, refl))) (inl refl)) (inl refl))
     (inl refl))
     (inserted (code 13) (made 3 refl) (inl refl)) refl) (inl refl)) (lit≤ tt)
-    (record { κs = κs; buf = lent (replicate 16 0); buf₁ = lent sent; n = 16; promised = (refl, refl); bytes = refl })
+    (record { κs = κs; buf = lent_mut (replicate 16 0); buf₁ = lent_mut sent; n = 16; promised = (refl, refl); bytes = refl })
     (record { κs = κs; packet = lent sent; packet₁ = lent sent; bytes = refl; promised = refl }))
     (inserted (code 11) (made 3 refl) (inl refl)) refl
 
@@ -74,12 +74,12 @@ two_left : LeftIn kind32 calls_made 2 2
 two_left = record { none_below = λ r. omega arith; in_all = refl; enough = lit≤ tt }
 
 -- Decoding lists exactly them, with a repeat, in the log's order.
-pub limit_listed : (κ : Lfts 1) (κs : Lfts 2) (log₁ out₁ : Bor (List ℕ)) (r : Number)
-    → decode_with_log.Post κs (built left, (lent (5 ∷ 7 ∷ 9 ∷ 7 ∷ 11 ∷ 13 ∷ []), (lent (replicate 6 0), tt))) r (built left, (log₁, (out₁, tt)))
+pub limit_listed : (κ : Lfts 1) (κs : Lfts 2) (log₁ : Bor (List ℕ)) (out₁ : MutBor (List ℕ)) (r : Number)
+    → decode_with_log.Post κs (built left, (lent (5 ∷ 7 ∷ 9 ∷ 7 ∷ 11 ∷ 13 ∷ []), (lent_mut (replicate 6 0), tt))) r (built left, (log₁, (out₁, tt)))
     → (r ≡ counted 3) × (out₁.now ≡ 7 ∷ 9 ∷ 7 ∷ 0 ∷ 0 ∷ 0 ∷ [])
 unfolding fresh insert remove subtract cut
 limit_listed κ κs log₁ out₁ r p =
-    decode_exact (ran κ) two_left κs (lent (5 ∷ 7 ∷ 9 ∷ 7 ∷ 11 ∷ 13 ∷ [])) log₁ (lent (replicate 6 0)) out₁ r (lit≤ tt) p
+    decode_exact (ran κ) two_left κs (lent (5 ∷ 7 ∷ 9 ∷ 7 ∷ 11 ∷ 13 ∷ [])) log₁ (lent_mut (replicate 6 0)) out₁ r (lit≤ tt) p
 
 -- ---- the sums determine what is left
 
@@ -126,12 +126,12 @@ unfolding fresh insert subtract
 limit_signed r p = signed_exact ran_over two_over r p
 
 -- Decoding the surplus lists exactly them, with a repeat and both codes of the residue 0, in the order of the got codes.
-pub limit_surplus : (κs : Lfts 2) (got₁ out₁ : Bor (List ℕ)) (r : Number)
-    → decode_surplus_with_log.Post κs (built over, (lent (5 ∷ 7 ∷ 0 ∷ 7 ∷ 4294967291 ∷ []), (lent (replicate 5 9), tt))) r (built over, (got₁, (out₁, tt)))
+pub limit_surplus : (κs : Lfts 2) (got₁ : Bor (List ℕ)) (out₁ : MutBor (List ℕ)) (r : Number)
+    → decode_surplus_with_log.Post κs (built over, (lent (5 ∷ 7 ∷ 0 ∷ 7 ∷ 4294967291 ∷ []), (lent_mut (replicate 5 9), tt))) r (built over, (got₁, (out₁, tt)))
     → (r ≡ counted 4) × (out₁.now ≡ 7 ∷ 0 ∷ 7 ∷ 4294967291 ∷ 9 ∷ [])
 unfolding fresh insert subtract
 limit_surplus κs got₁ out₁ r p =
-    surplus_exact ran_over two_over κs (lent (5 ∷ 7 ∷ 0 ∷ 7 ∷ 4294967291 ∷ [])) got₁ (lent (replicate 5 9)) out₁ r (lit≤ tt) p
+    surplus_exact ran_over two_over κs (lent (5 ∷ 7 ∷ 0 ∷ 7 ∷ 4294967291 ∷ [])) got₁ (lent_mut (replicate 5 9)) out₁ r (lit≤ tt) p
 
 -- A history of two removals has the same surplus.
 abbrev two_removed : History
