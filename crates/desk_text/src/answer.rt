@@ -74,6 +74,7 @@ fn decide(d: Desk, log: &[u32], got: &[u32], out: &mut [u8]) -> Number
 }
 
 // After good lines: a line begun is bad.
+#[tactic(auto, unfolding(crate::specs::Answer::settled_of))]
 fn settle(r: Reading, log: &[u32], got: &[u32], out: &mut [u8]) -> Number
     requires { Bounded r.desk log.now got.now }
     ensures answer { result ≡ numbered (fitting (printed (settled_of r log.now got.now)) (length out.old)) }
@@ -89,6 +90,7 @@ fn settle(r: Reading, log: &[u32], got: &[u32], out: &mut [u8]) -> Number
 }
 
 // The core of `finish`.
+#[tactic(auto, unfolding(crate::specs::Answer::outcome_of))]
 fn end(r: Reading, log: &[u32], got: &[u32], out: &mut [u8]) -> Number
     requires { Bounded r.desk log.now got.now }
     ensures answer { result ≡ numbered (fitting (printed (outcome_of r log.now got.now)) (length out.old)) }

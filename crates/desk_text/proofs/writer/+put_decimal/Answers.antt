@@ -1,5 +1,5 @@
 -- The digits of the tenth, and then the last one.
-use Rattle.std.proofs.Common.{sym, arith}
+use Rattle.std.proofs.Common.{◌<◌, length, sym, arith, rules}
 use Rattle.desk_rules.proofs.Text.{decimal_digit, decimal_digits}
 use Rattle.desk_text.proofs.Stores.{put_byte, put_then, put_length, put_as, one_digit, more_digits}
 use Rattle.desk_text.proofs.writer.+put_decimal.Goals as goal
@@ -18,7 +18,10 @@ bounds-out-end t c =
     omega (arith, c.requires, more_digits c.args.n c.if-n-lt10.false, c.put_decimal-end.ensures.ends, put_length c.put_decimal-end.ensures)
 
 pub overflow_add-result-2 : goal.overflow_add-result-2
-overflow_add-result-2 t c = ?
+overflow_add-result-2 t c =
+    let inside : c.put_decimal-end.result < length c.put_decimal-end.new.out =
+    omega (arith, c.requires, more_digits c.args.n c.if-n-lt10.false, c.put_decimal-end.ensures.ends, put_length c.put_decimal-end.ensures) in
+    search rules
 
 pub returns : goal.returns
 returns t c =
