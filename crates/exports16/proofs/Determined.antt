@@ -1,6 +1,6 @@
 -- Every exported call determines its answer and what it leaves in whatever it was lent: any two outcomes that its contract allows for one input are equal.
 -- Assumes nothing.
-use Rattle.std.proofs.Common.{ℕ, List, Bor}
+use Rattle.std.proofs.Common.{ℕ, List, Bor, MutBor}
 use contract.Lifetimes.{Lfts}
 use Rattle.rules.specs.Determines.{Holds, Determines, DeterminesBoth}
 use Rattle.rules.proofs.Determined.{by_equation, by_equations}
@@ -80,7 +80,7 @@ module _ (κs : Lfts 1) (s s' : Bor (List ℕ)) where
 
 -- ---- calls that are lent words or a buffer to write
 
-module _ (κs : Lfts 1) (s : Bor (List ℕ)) (n : ℕ) where
+module _ (κs : Lfts 1) (s : MutBor (List ℕ)) (n : ℕ) where
   -- Making a sketch has one answer, and leaves one list of words.
   pub new_determined : DeterminesBoth (λ r s₁. new.Post κs (n, (s, tt)) r (n, (s₁, tt)))
   new_determined = by_equations _ _
@@ -94,7 +94,7 @@ module _ (κs : Lfts 1) (s : Bor (List ℕ)) (n : ℕ) where
   remove_determined = by_equations _ _
 
 -- s is read, and out is written.
-module _ (κs : Lfts 2) (s s' out : Bor (List ℕ)) where
+module _ (κs : Lfts 2) (s s' : Bor (List ℕ)) (out : MutBor (List ℕ)) where
   -- Subtraction in place has one answer, and leaves one list of words.
   pub sub_assign_determined : DeterminesBoth (λ r out₁. sub_assign.Post κs (out, (s, tt)) r (out₁, (s', tt)))
   sub_assign_determined = by_equations _ _
@@ -119,7 +119,7 @@ module _ (κs : Lfts 2) (s s' out : Bor (List ℕ)) where
   pub deserialize_determined : DeterminesBoth (λ r out₁. deserialize.Post κs (s, (out, tt)) r (s', (out₁, tt)))
   deserialize_determined = by_equations _ _
 
-module _ (κs : Lfts 3) (s s' o o' out : Bor (List ℕ)) where
+module _ (κs : Lfts 3) (s s' o o' : Bor (List ℕ)) (out : MutBor (List ℕ)) where
   -- Subtraction of two sketches has one answer, and leaves one list of words.
   pub sub_determined : DeterminesBoth (λ r out₁. sub.Post κs (s, (o, (out, tt))) r (s', (o', (out₁, tt))))
   sub_determined = by_equations _ _

@@ -18,7 +18,7 @@ use Rattle.rules.specs.Calls as calls
 use Rattle.rules.specs.Words.{said_by, words_fit, words_of, new_in, insert_in, remove_in, sub_assign_in, sub_in, coefficients_in, decode_in, write_in, write_with_hint_in}
 use Rattle.rules.specs.Words.{head_words, has_at, head, read_in, negate_in, decode_surplus_in}
 use Rattle.rules.specs.Determines.{Holds, RefusesBoth, RefusesAll, MustAnswer}
-use Rattle.rules.proofs.Determined.{lent, both_differ, must_answer, all_differ}
+use Rattle.rules.proofs.Determined.{lent, lent_mut, both_differ, must_answer, all_differ}
 use Rattle.lent.specs.declared.Number.{Number}
 use Rattle.lent.specs.Answers.{counted}
 use Rattle.polynomial16.specs.declared.evaluator.Evaluated.{Evaluated}
@@ -114,7 +114,7 @@ pow_multiplications_wrong = both_differ itself _ _ refl refl
 
 -- Threshold 3 is refused, or the word behind those of the sketch is changed.
 pub new_wrong : (κs : Lfts 1)
-    → RefusesAll itself (λ r s₁. new.Post κs (3, (lent (nines (head_words kind16 + 4)), tt)) r (3, (s₁, tt))) 5 (none ++ 0 ∷ [])
+    → RefusesAll itself (λ r s₁. new.Post κs (3, (lent_mut (nines (head_words kind16 + 4)), tt)) r (3, (s₁, tt))) 5 (none ++ 0 ∷ [])
 unfolding new_in calls.make fresh words_of
 new_wrong κs = all_differ itself itself (at (head_words kind16 + 3)) _ _ refl refl refl
 
@@ -125,26 +125,26 @@ well_formed_wrong κs s₁ = both_differ itself _ _ refl refl
 
 -- An insertion is refused, or nothing is inserted.
 pub insert_wrong : (κs : Lfts 1)
-    → RefusesAll itself (λ r s₁. insert.Post κs (lent (none ++ 9 ∷ []), (10, tt)) r (s₁, (10, tt))) 12 (none ++ 9 ∷ [])
+    → RefusesAll itself (λ r s₁. insert.Post κs (lent_mut (none ++ 9 ∷ []), (10, tt)) r (s₁, (10, tt))) 12 (none ++ 9 ∷ [])
 unfolding fresh each every well_formed said_by words_fit words_of insert_in calls.insert sketch.insert
 insert_wrong κs = all_differ itself itself (at 1) _ _ refl refl refl
 
 -- A removal of the greatest code is refused, or its residue is kept as the last code.
 pub remove_wrong : (κs : Lfts 1) → let x = residue kind16 65535 in
-    RefusesAll itself (λ r s₁. remove.Post κs (lent (head kind16 1 1 1 x ++ x ∷ []), (65535, tt)) r (s₁, (65535, tt))) 12
+    RefusesAll itself (λ r s₁. remove.Post κs (lent_mut (head kind16 1 1 1 x ++ x ∷ []), (65535, tt)) r (s₁, (65535, tt))) 12
     (head kind16 1 0 1 x ++ 0 ∷ [])
 unfolding fresh each every well_formed said_by words_fit words_of remove_in calls.remove sketch.remove
 remove_wrong κs = all_differ itself itself (at (has_at kind16)) _ _ refl refl refl
 
 -- Equal thresholds are refused, or the last code is kept.
 pub sub_assign_wrong : (κs : Lfts 2) (s' : Bor (List ℕ))
-    → RefusesAll itself (λ r s₁. sub_assign.Post κs (lent both, (lent none, tt)) r (s₁, (s', tt))) 2 both
+    → RefusesAll itself (λ r s₁. sub_assign.Post κs (lent_mut both, (lent none, tt)) r (s₁, (s', tt))) 2 both
 unfolding fresh each every well_formed said_by words_fit words_of sub_assign_in calls.sub_assign sketch.subtract
 sub_assign_wrong κs s' = all_differ itself itself (at (has_at kind16)) _ _ refl refl refl
 
 -- Thresholds that differ are refused, or the greater is kept.
 pub sub_wrong : (κs : Lfts 3) (s' o' : Bor (List ℕ))
-    → RefusesAll itself (λ r s₁. sub.Post κs (lent both, (lent (head kind16 2 0 0 0 ++ 0 ∷ 0 ∷ []), (lent (nines (head_words kind16 + 4)), tt))) r
+    → RefusesAll itself (λ r s₁. sub.Post κs (lent both, (lent (head kind16 2 0 0 0 ++ 0 ∷ 0 ∷ []), (lent_mut (nines (head_words kind16 + 4)), tt))) r
     (s', (o', (s₁, tt)))) 2
     (head kind16 3 2 0 0 ++ 22 ∷ 244 ∷ 2728 ∷ 9 ∷ [])
 unfolding fresh each every well_formed said_by words_fit words_of sub_in calls.sub sketch.subtract
@@ -158,7 +158,7 @@ signed_count_wrong κs s₁ = both_differ below_zero _ _ refl refl
 
 -- Negation is refused, or the last code is kept.
 pub negate_wrong : (κs : Lfts 2) (s' : Bor (List ℕ))
-    → RefusesAll itself (λ r s₁. negate.Post κs (lent both, (lent (nines (head_words kind16 + 4)), tt)) r (s', (s₁, tt))) 12
+    → RefusesAll itself (λ r s₁. negate.Post κs (lent both, (lent_mut (nines (head_words kind16 + 4)), tt)) r (s', (s₁, tt))) 12
     (head kind16 3 (counts - 2) 1 12 ++ (kind16.modulus - 22) ∷ (kind16.modulus - 244) ∷ (kind16.modulus - 2728) ∷ 9 ∷ [])
 unfolding fresh each every well_formed said_by words_fit words_of negate_in calls.negate sketch.negate
 negate_wrong κs s' = all_differ itself itself (at (has_at kind16)) _ _ refl refl refl
@@ -179,13 +179,13 @@ eval_must_answer κs s₁ = must_answer (λ (r : Evaluated). r.refusal) refl
 
 -- One coefficient is counted, or they stand the other way round.
 pub to_coeffs_wrong : (κs : Lfts 2) (s' : Bor (List ℕ))
-    → RefusesAll refused (λ r s₁. to_coeffs.Post κs (lent both, (lent (nines 2), tt)) r (s', (s₁, tt))) (counted 1) (120 ∷ 65499 ∷ [])
+    → RefusesAll refused (λ r s₁. to_coeffs.Post κs (lent both, (lent_mut (nines 2), tt)) r (s', (s₁, tt))) (counted 1) (120 ∷ 65499 ∷ [])
 unfolding fresh each every well_formed said_by words_fit words_of coefficients_in calls.coefficients decoding.coefficients decoding.newest_first power_mod power_within
 to_coeffs_wrong κs s' = all_differ refused many (at 0) _ _ refl refl refl
 
 -- Both entries are counted, or the other one is listed.
 pub decode_with_log_wrong : (κs : Lfts 3) (s' o' : Bor (List ℕ))
-    → RefusesAll refused (λ r s₁. decode_with_log.Post κs (lent both, (lent (1 ∷ 10 ∷ []), (lent (nines 2), tt))) r (s', (o', (s₁, tt)))) (counted 2)
+    → RefusesAll refused (λ r s₁. decode_with_log.Post κs (lent both, (lent (1 ∷ 10 ∷ []), (lent_mut (nines 2), tt))) r (s', (o', (s₁, tt)))) (counted 2)
     (1 ∷ 9 ∷ [])
 unfolding fresh each every well_formed said_by words_fit words_of decode_in calls.decode decoding.decode decoding.evaluate decoding.coefficients
     decoding.newest_first power_mod power_within
@@ -193,7 +193,7 @@ decode_with_log_wrong κs s' o' = all_differ refused many (at 0) _ _ refl refl r
 
 -- Both codes are counted, or the other one is listed.
 pub decode_surplus_with_log_wrong : (κs : Lfts 3) (s' o' : Bor (List ℕ))
-    → RefusesAll refused (λ r s₁. decode_surplus_with_log.Post κs (lent gone, (lent (1 ∷ 10 ∷ []), (lent (nines 2), tt))) r (s', (o', (s₁, tt)))) (counted 2)
+    → RefusesAll refused (λ r s₁. decode_surplus_with_log.Post κs (lent gone, (lent (1 ∷ 10 ∷ []), (lent_mut (nines 2), tt))) r (s', (o', (s₁, tt)))) (counted 2)
     (1 ∷ 9 ∷ [])
 unfolding fresh each every well_formed said_by words_fit words_of signed_count sketch.negate decode_surplus_in calls.decode_surplus decoding.surplus decoding.decode
     decoding.evaluate decoding.coefficients decoding.newest_first power_mod power_within
@@ -203,21 +203,21 @@ decode_surplus_with_log_wrong κs s' o' = all_differ refused many (at 0) _ _ ref
 
 -- One byte too few is counted, or the count's highest byte comes first.
 pub serialize_wrong : (κs : Lfts 2) (s' : Bor (List ℕ))
-    → RefusesAll refused (λ r s₁. serialize.Post κs (lent both, (lent (nines (packet_length kind16 3)), tt)) r (s', (s₁, tt)))
+    → RefusesAll refused (λ r s₁. serialize.Post κs (lent both, (lent_mut (nines (packet_length kind16 3)), tt)) r (s', (s₁, tt)))
     (counted (packet_length kind16 3 - 1)) (0 ∷ 0 ∷ 0 ∷ 2 ∷ nines (packet_length kind16 3 - 4))
 unfolding fresh each every well_formed said_by words_fit words_of write_in calls.write packet bytes all_bytes
 serialize_wrong κs s' = all_differ refused many (at 0) _ _ refl refl refl
 
 -- Every sum is written in spite of the hint, or the hint is the count.
 pub serialize_with_hint_wrong : (κs : Lfts 2) (s' : Bor (List ℕ))
-    → RefusesAll refused (λ r s₁. serialize_with_hint.Post κs (lent both, (lent (nines (packet_length kind16 3)), (1, tt))) r (s', (s₁, (1, tt))))
+    → RefusesAll refused (λ r s₁. serialize_with_hint.Post κs (lent both, (lent_mut (nines (packet_length kind16 3)), (1, tt))) r (s', (s₁, (1, tt))))
     (counted (packet_length kind16 3)) (1 ∷ nines (packet_length kind16 3 - 1))
 unfolding fresh each every well_formed said_by words_fit words_of write_with_hint_in calls.write_with_hint packet bytes all_bytes
 serialize_with_hint_wrong κs s' = all_differ refused many (at 0) _ _ refl refl refl
 
 -- The bytes of one sum are refused, or the count is forgotten.
 pub deserialize_wrong : (κs : Lfts 2) (s' : Bor (List ℕ))
-    → RefusesAll itself (λ r s₁. deserialize.Post κs (lent (2 ∷ replicate (packet_length kind16 1 - 1) 0), (lent (nines (head_words kind16 + 2)), tt)) r
+    → RefusesAll itself (λ r s₁. deserialize.Post κs (lent (2 ∷ replicate (packet_length kind16 1 - 1) 0), (lent_mut (nines (head_words kind16 + 2)), tt)) r
     (s', (s₁, tt))) 5
     (head kind16 1 0 1 0 ++ 0 ∷ 9 ∷ [])
 unfolding read_in calls.read every number all_numbers sketch_in words_of

@@ -11,8 +11,7 @@ use lent::Number;
 use modint16::{PLACES, Word};
 use polynomial16::{coefficients, evaluator};
 
-#[unsafe(no_mangle)]
-pub extern "C" fn eddy16_to_coeffs(s: &[Word], coeffs: &mut [Word]) -> Number
+pub fn eddy16_to_coeffs(s: &[Word], coeffs: &mut [Word]) -> Number
     ensures answer { result ≡ numbered (coefficients_in kind16 s.now (length coeffs.old)) }
     ensures buffer { coeffs.new ≡ written (coefficients_in kind16 s.now (length coeffs.old)) coeffs.old }
 {
@@ -32,8 +31,7 @@ pub extern "C" fn eddy16_to_coeffs(s: &[Word], coeffs: &mut [Word]) -> Number
     Number::wrote(n)
 }
 
-#[unsafe(no_mangle)]
-pub extern "C" fn eddy16_decode_with_log(s: &[Word], log: &[Word], out: &mut [Word]) -> Number
+pub fn eddy16_decode_with_log(s: &[Word], log: &[Word], out: &mut [Word]) -> Number
     ensures answer { result ≡ numbered (decode_in kind16 s.now log.now (length out.old)) }
     ensures buffer { out.new ≡ written (decode_in kind16 s.now log.now (length out.old)) out.old }
 {

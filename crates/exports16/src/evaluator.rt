@@ -8,8 +8,7 @@ use modint16::{Code, Word};
 use polynomial16::evaluator;
 use polynomial16::evaluator::Evaluated;
 
-#[unsafe(no_mangle)]
-pub extern "C" fn eddy16_eval(coeffs: &[Word], x: Word) -> Evaluated
+pub fn eddy16_eval(coeffs: &[Word], x: Word) -> Evaluated
     ensures { result ≡ valued (evaluate kind16 coeffs.now x) }
 {
     evaluator::eval(coeffs, Code(x))

@@ -1,4 +1,6 @@
 // The calls of the sketch and of the field for C and for Rust, over words and bytes. Every call takes any input.
+#![tactic(auto)]
+
 pub mod decoder;
 pub mod evaluator;
 mod layout;

@@ -13,57 +13,49 @@ fn answered(x: Residue) -> u32
     x.value() as u32
 }
 
-#[unsafe(no_mangle)]
-pub extern "C" fn eddy16_field_reduce(c: Word) -> u32
+pub fn eddy16_field_reduce(c: Word) -> u32
     ensures { result ≡ residue kind16 c }
 {
     answered(Residue::reduce(Code(c)))
 }
 
-#[unsafe(no_mangle)]
-pub extern "C" fn eddy16_field_add(a: Word, b: Word) -> u32
+pub fn eddy16_field_add(a: Word, b: Word) -> u32
     ensures { result ≡ plus kind16 (residue kind16 a) (residue kind16 b) }
 {
     answered(Code(a).add(Code(b)))
 }
 
-#[unsafe(no_mangle)]
-pub extern "C" fn eddy16_field_sub(a: Word, b: Word) -> u32
+pub fn eddy16_field_sub(a: Word, b: Word) -> u32
     ensures { result ≡ minus kind16 (residue kind16 a) (residue kind16 b) }
 {
     answered(Code(a).sub(Code(b)))
 }
 
-#[unsafe(no_mangle)]
-pub extern "C" fn eddy16_field_neg(a: Word) -> u32
+pub fn eddy16_field_neg(a: Word) -> u32
     ensures { result ≡ negative kind16 (residue kind16 a) }
 {
     answered(Code(a).neg())
 }
 
-#[unsafe(no_mangle)]
-pub extern "C" fn eddy16_field_mul(a: Word, b: Word) -> u32
+pub fn eddy16_field_mul(a: Word, b: Word) -> u32
     ensures { result ≡ times kind16 (residue kind16 a) (residue kind16 b) }
 {
     answered(Code(a).mul(Code(b)))
 }
 
-#[unsafe(no_mangle)]
-pub extern "C" fn eddy16_field_inv(a: Word) -> u32
+pub fn eddy16_field_inv(a: Word) -> u32
     ensures { result ≡ inverse kind16 (residue kind16 a) }
 {
     answered(Code(a).inv())
 }
 
-#[unsafe(no_mangle)]
-pub extern "C" fn eddy16_field_pow(a: Word, e: Word) -> Powered
+pub fn eddy16_field_pow(a: Word, e: Word) -> Powered
     ensures { result ≡ powered (residue kind16 a) e }
 {
     Code(a).pow(e)
 }
 
-#[unsafe(no_mangle)]
-pub extern "C" fn eddy16_field_pow_multiplications(e: Word) -> u32
+pub fn eddy16_field_pow_multiplications(e: Word) -> u32
     ensures { result ≡ multiplications e }
 {
     Residue::pow_multiplications(e)

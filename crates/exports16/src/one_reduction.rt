@@ -8,8 +8,7 @@ use modint16::{Code, Word};
 use polynomial16::evaluator::Evaluated;
 use polynomial16::one_reduction;
 
-#[unsafe(no_mangle)]
-pub extern "C" fn eddy16_eval_precompute(coeffs: &[Word], x: Word) -> Evaluated
+pub fn eddy16_eval_precompute(coeffs: &[Word], x: Word) -> Evaluated
     ensures { result ≡ valued (evaluate_once kind16 coeffs.now x) }
 {
     one_reduction::eval_precompute(coeffs, Code(x))

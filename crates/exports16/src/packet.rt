@@ -11,8 +11,7 @@ use lent::Number;
 use modint16::{Code, Residue, Word};
 use sums16::packet;
 
-#[unsafe(no_mangle)]
-pub extern "C" fn eddy16_serialize_with_hint(s: &[Word], buf: &mut [u8], hint: usize) -> Number
+pub fn eddy16_serialize_with_hint(s: &[Word], buf: &mut [u8], hint: usize) -> Number
     ensures answer { result ≡ numbered (write_with_hint_in kind16 s.now hint (length buf.old)) }
     ensures buffer { buf.new ≡ written (write_with_hint_in kind16 s.now hint (length buf.old)) buf.old }
 {
@@ -32,16 +31,14 @@ pub extern "C" fn eddy16_serialize_with_hint(s: &[Word], buf: &mut [u8], hint: u
     )
 }
 
-#[unsafe(no_mangle)]
-pub extern "C" fn eddy16_serialize(s: &[Word], buf: &mut [u8]) -> Number
+pub fn eddy16_serialize(s: &[Word], buf: &mut [u8]) -> Number
     ensures answer { result ≡ numbered (write_in kind16 s.now (length buf.old)) }
     ensures buffer { buf.new ≡ written (write_in kind16 s.now (length buf.old)) buf.old }
 {
     eddy16_serialize_with_hint(s, buf, modint16::PLACES)
 }
 
-#[unsafe(no_mangle)]
-pub extern "C" fn eddy16_deserialize(buf: &[u8], out: &mut [Word]) -> u32
+pub fn eddy16_deserialize(buf: &[u8], out: &mut [Word]) -> u32
     ensures refusal { result ≡ refusal_of (read_in kind16 buf.now (length out.old)) }
     ensures words { out.new ≡ written (read_in kind16 buf.now (length out.old)) out.old }
 {

@@ -9,8 +9,7 @@ use crate::{layout, words};
 use modint16::{Code, PLACES, Residue, Word};
 use sums16::{places, powers};
 
-#[unsafe(no_mangle)]
-pub extern "C" fn eddy16_new(threshold: usize, out: &mut [Word]) -> u32
+pub fn eddy16_new(threshold: usize, out: &mut [Word]) -> u32
     ensures refusal { result ≡ refusal_of (new_in kind16 threshold (length out.old)) }
     ensures words { out.new ≡ written (new_in kind16 threshold (length out.old)) out.old }
 {
@@ -29,15 +28,13 @@ pub extern "C" fn eddy16_new(threshold: usize, out: &mut [Word]) -> u32
     0
 }
 
-#[unsafe(no_mangle)]
-pub extern "C" fn eddy16_well_formed(s: &[Word]) -> u32
+pub fn eddy16_well_formed(s: &[Word]) -> u32
     ensures { result ≡ well_formed_in kind16 s.now }
 {
     if words::head_of(s).fits { 1 } else { 0 }
 }
 
-#[unsafe(no_mangle)]
-pub extern "C" fn eddy16_insert(s: &mut [Word], code: Word) -> u32
+pub fn eddy16_insert(s: &mut [Word], code: Word) -> u32
     ensures refusal { result ≡ refusal_of (insert_in kind16 s.old code) }
     ensures words { s.new ≡ written (insert_in kind16 s.old code) s.old }
 {
@@ -53,8 +50,7 @@ pub extern "C" fn eddy16_insert(s: &mut [Word], code: Word) -> u32
     0
 }
 
-#[unsafe(no_mangle)]
-pub extern "C" fn eddy16_remove(s: &mut [Word], code: Word) -> u32
+pub fn eddy16_remove(s: &mut [Word], code: Word) -> u32
     ensures refusal { result ≡ refusal_of (remove_in kind16 s.old code) }
     ensures words { s.new ≡ written (remove_in kind16 s.old code) s.old }
 {
@@ -73,8 +69,7 @@ pub extern "C" fn eddy16_remove(s: &mut [Word], code: Word) -> u32
     0
 }
 
-#[unsafe(no_mangle)]
-pub extern "C" fn eddy16_sub_assign(s: &mut [Word], rhs: &[Word]) -> u32
+pub fn eddy16_sub_assign(s: &mut [Word], rhs: &[Word]) -> u32
     ensures refusal { result ≡ refusal_of (sub_assign_in kind16 s.old rhs.now) }
     ensures words { s.new ≡ written (sub_assign_in kind16 s.old rhs.now) s.old }
 {
@@ -96,8 +91,7 @@ pub extern "C" fn eddy16_sub_assign(s: &mut [Word], rhs: &[Word]) -> u32
     0
 }
 
-#[unsafe(no_mangle)]
-pub extern "C" fn eddy16_sub(s: &[Word], rhs: &[Word], out: &mut [Word]) -> u32
+pub fn eddy16_sub(s: &[Word], rhs: &[Word], out: &mut [Word]) -> u32
     ensures refusal { result ≡ refusal_of (sub_in kind16 s.now rhs.now (length out.old)) }
     ensures words { out.new ≡ written (sub_in kind16 s.now rhs.now (length out.old)) out.old }
 {

@@ -13,8 +13,7 @@ use modint16::{PLACES, Word};
 // The words of a sketch of the greatest threshold.
 const MOST: usize = HEAD + PLACES;
 
-#[unsafe(no_mangle)]
-pub extern "C" fn eddy16_signed_count(s: &[Word]) -> i32
+pub fn eddy16_signed_count(s: &[Word]) -> i32
     ensures { result ≡ signed_count_in kind16 s.now }
 {
     if s.len() < HEAD {
@@ -24,8 +23,7 @@ pub extern "C" fn eddy16_signed_count(s: &[Word]) -> i32
 }
 
 // A fresh sketch less this one.
-#[unsafe(no_mangle)]
-pub extern "C" fn eddy16_negate(s: &[Word], out: &mut [Word]) -> u32
+pub fn eddy16_negate(s: &[Word], out: &mut [Word]) -> u32
     ensures refusal { result ≡ refusal_of (negate_in kind16 s.now (length out.old)) }
     ensures words { out.new ≡ written (negate_in kind16 s.now (length out.old)) out.old }
 {
@@ -38,12 +36,7 @@ pub extern "C" fn eddy16_negate(s: &[Word], out: &mut [Word]) -> u32
     power_sum::eddy16_sub(&nothing, s, out)
 }
 
-#[unsafe(no_mangle)]
-pub extern "C" fn eddy16_decode_surplus_with_log(
-    s: &[Word],
-    got: &[Word],
-    out: &mut [Word],
-) -> Number
+pub fn eddy16_decode_surplus_with_log(s: &[Word], got: &[Word], out: &mut [Word]) -> Number
     ensures answer { result ≡ numbered (decode_surplus_in kind16 s.now got.now (length out.old)) }
     ensures buffer { out.new
         ≡ written (decode_surplus_in kind16 s.now got.now (length out.old)) out.old }

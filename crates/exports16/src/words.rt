@@ -10,7 +10,7 @@ use crate::layout::{HAS, HEAD, LAST};
 use modint16::{PLACES, Residue, Word, slices};
 
 // The words before the sums, and whether all the words fit.
-#[derive(Drop)]
+#[derive(Clone, Copy)]
 pub(crate) struct Head {
     pub fits: bool,
     pub threshold: usize,
