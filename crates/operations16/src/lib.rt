@@ -1,4 +1,6 @@
 // The operations of a recorded list, run on the calls of `exports16` and compared with the answers recorded.
+#![tactic(auto)]
+
 mod agree;
 mod field;
 pub mod operation;
