@@ -6,15 +6,10 @@ use mathlib.Core.Bool.{Bool, true, false, cond}
 use mathlib.Core.List.{List, [], ◌++◌, foldl-append}
 use native.Mathlib.Omega.{arith}
 use lib.Dec.{eqb}
-use lib.IntN.{ℤ, pos, negsuc}
 use lib.ListN.{length, take}
 use lib.Seq.{take-append_seam}
-use lib.Signed.{lt_z}
-use mir.Syntax.{w64}
-use mir.Val.{SFits, to_z, of_z}
-use mir.ValLaws.{to_z-of_z}
-use borrow.Author.Tests.{ltb-true, le-leb, eq-eqb, ne_eqb}
-use Rattle.io.specs.Counts.{clamp_len}
+use borrow.Author.Tests.{le-leb}
+use Rattle.std.specs.Prelude.{min, Result, Ok, Err}
 use Rattle.rules.specs.Kind.{kind32}
 use Rattle.rules.specs.Calls.{written, fitting}
 use Rattle.desk_rules.specs.Desk.{most_lines}
@@ -23,57 +18,12 @@ use Rattle.desk_rules.proofs.Desk.{state_after}
 use Rattle.lent.specs.declared.Number.{Number}
 use Rattle.lent.specs.Answers.{numbered}
 use Rattle.desk_reader.specs.declared.Reading.{Reading}
-use Rattle.desk_reader.specs.declared.Fed.{Fed}
 use Rattle.desk_reader.specs.Reader.{Standing, standing, byte_of, fed_of, start_of, enough_places, feed_answer, feed_log, feed_got}
 use Rattle.desk_reader.proofs.Meaning.{Tied, tied_start, enough_places_lem, tied_feed}
 use Rattle.desk_text.specs.Answer.{finish_of}
 use Rattle.desk_text.proofs.Meaning.{tied_finish}
 use Rattle.desk_text.proofs.Promise.{long_enough}
-use Rattle.desk.specs.declared.Source.{Source}
 use Rattle.desk.specs.Input.{room, over, goes_on, after_read, log_after_read, got_after_read, Came, Answered}
-
--- ---- what a read answered
-
--- The code tests and counts what the bits of the answer say, which is the answer.
-module _ (told : ℤ) (f : SFits w64 told) where
-  -- Whether it is negative.
-  pub sign : {negative : Bool} → lt_z (to_z w64 (of_z w64 told)) (pos 0) ≡ negative → lt_z told (pos 0) ≡ negative
-  sign t = ap (λ (z : ℤ). lt_z z (pos 0)) (sym (to_z-of_z w64 told f)) ∙ t
-
-  -- How many bytes it says.
-  pub amount : {n : ℕ} (most : ℕ) → n ≡ clamp_len (to_z w64 (of_z w64 told)) most → n ≡ clamp_len told most
-  amount most e = e ∙ ap (λ (z : ℤ). clamp_len z most) (to_z-of_z w64 told f)
-
--- A reading, the lists that it is lent, and the piece that was lent to the read.
-module _ (r : Reading) (log got piece : List ℕ) where
-  -- What is left of a reading and its lists after a read that answered a number.
-  abbrev pub AfterRead : ℤ → Source → List ℕ → List ℕ → Type 0
-  AfterRead told source log₁ got₁ =
-      (source ≡ after_read r log got told piece) × ((log₁ ≡ log_after_read r log got told piece) × (got₁ ≡ got_after_read r log got told piece))
-
-  -- It failed.
-  pub failed : (told : ℤ) {q : Reading} → lt_z told (pos 0) ≡ true → q ≡ start_of → AfterRead told (over q) log got
-  unfolding after_read log_after_read got_after_read
-  failed (pos k) t e = absurd (omega (arith, ltb-true k 0 t))
-  failed (negsuc k) t e = (ap over e, (refl, refl))
-
-  -- The input has ended.
-  pub ended : (told : ℤ) {n : ℕ} → lt_z told (pos 0) ≡ false → n ≡ clamp_len told (length piece) → n ≡ 0 → AfterRead told (over r) log got
-  unfolding after_read log_after_read got_after_read
-  ended (pos k) t e z =
-      let none : eqb (clamp_len (pos k) (length piece)) 0 ≡ true = eq-eqb (clamp_len (pos k) (length piece)) 0 (sym e ∙ z) in
-      (rw none, (rw none, rw none))
-  ended (negsuc k) t e z = absurd (omega (arith, ap {B = ℕ} (λ (b : Bool). cond b 1 0) t))
-
-  -- So many bytes came, and are fed.
-  pub moved : (told : ℤ) {n : ℕ} {fed : Fed} {log₁ got₁ : List ℕ} → lt_z told (pos 0) ≡ false → n ≡ clamp_len told (length piece) → (n ≡ 0 → ⊥)
-      → fed ≡ feed_answer r log got (take n piece) → log₁ ≡ feed_log r log got (take n piece) → got₁ ≡ feed_got r log got (take n piece)
-      → AfterRead told (goes_on fed.reading) log₁ got₁
-  unfolding after_read log_after_read got_after_read
-  moved (pos k) t e z f g h =
-      let some : eqb (clamp_len (pos k) (length piece)) 0 ≡ false = ne_eqb (clamp_len (pos k) (length piece)) 0 (λ q. z (e ∙ q)) in
-      (rw (f, e, some), (rw (g, e, some), rw (h, e, some)))
-  moved (negsuc k) t e z f g h = absurd (z e)
 
 -- ---- what came
 
@@ -147,11 +97,11 @@ module _ {r : Reading} {log got : List ℕ} (k : Came r log got) where
   came_moved false piece = came_piece piece
 
   -- After one more read.
-  pub came_read : (told : ℤ) (piece : List ℕ)
+  pub came_read : {E : Type 0} (told : Result ℕ E) (piece : List ℕ)
       → Came (after_read r log got told piece).reading (log_after_read r log got told piece) (got_after_read r log got told piece)
   unfolding after_read log_after_read got_after_read
-  came_read (pos n) piece = came_moved (eqb (clamp_len (pos n) (length piece)) 0) (take (clamp_len (pos n) (length piece)) piece)
-  came_read (negsuc n) piece = came_start log got came_places came_got_places refl
+  came_read (Ok n) piece = came_moved (eqb (min n (length piece)) 0) (take (min n (length piece)) piece)
+  came_read (Err e) piece = came_start log got came_places came_got_places refl
 
   -- ---- what is written
 

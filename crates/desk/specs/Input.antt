@@ -1,7 +1,6 @@
 -- What can be said of standard input: some bytes came, and what is written is the answer to them. Definitions only.
 -- Assumes nothing.
-use Rattle.std.specs.Prelude.{ℕ, ◌≤◌, ◌≡◌, true, false, cond, List, eqb, ℤ, pos, negsuc, length, take}
-use Rattle.io.specs.Counts.{clamp_len}
+use Rattle.std.specs.Prelude.{ℕ, ◌≤◌, ◌≡◌, true, false, cond, List, eqb, min, length, take, Result, Ok, Err}
 use Rattle.rules.specs.Kind.{kind32}
 use Rattle.desk_rules.specs.Desk.{most_lines}
 use Rattle.desk_rules.specs.Text.{desk_answer}
@@ -25,22 +24,22 @@ goes_on r = record { reading = r; more = true }
 abbrev pub after_bytes : Reading → List ℕ → List ℕ → ℕ → List ℕ → Source
 after_bytes r log got n piece = cond (eqb n 0) (over r) (goes_on (feed_answer r log got (take n piece)).reading)
 
--- After a read that answered a number: a negative one says that it failed, and the reading is that of an empty input.
-unfoldable pub after_read : Reading → List ℕ → List ℕ → ℤ → List ℕ → Source
-after_read r log got (pos k) piece = after_bytes r log got (clamp_len (pos k) (length piece)) piece
-after_read r log got (negsuc k) piece = over start_of
+-- After a read that moved so many bytes, or failed: then the reading is that of an empty input.
+unfoldable pub after_read : {E : Type 0} → Reading → List ℕ → List ℕ → Result ℕ E → List ℕ → Source
+after_read r log got (Ok k) piece = after_bytes r log got (min k (length piece)) piece
+after_read r log got (Err e) piece = over start_of
 
 -- The lent log then: as it was, unless bytes came.
-unfoldable pub log_after_read : Reading → List ℕ → List ℕ → ℤ → List ℕ → List ℕ
-log_after_read r log got (pos k) piece =
-    cond (eqb (clamp_len (pos k) (length piece)) 0) log (feed_log r log got (take (clamp_len (pos k) (length piece)) piece))
-log_after_read r log got (negsuc k) piece = log
+unfoldable pub log_after_read : {E : Type 0} → Reading → List ℕ → List ℕ → Result ℕ E → List ℕ → List ℕ
+log_after_read r log got (Ok k) piece =
+    cond (eqb (min k (length piece)) 0) log (feed_log r log got (take (min k (length piece)) piece))
+log_after_read r log got (Err e) piece = log
 
 -- The lent got codes then: as they were, unless bytes came.
-unfoldable pub got_after_read : Reading → List ℕ → List ℕ → ℤ → List ℕ → List ℕ
-got_after_read r log got (pos k) piece =
-    cond (eqb (clamp_len (pos k) (length piece)) 0) got (feed_got r log got (take (clamp_len (pos k) (length piece)) piece))
-got_after_read r log got (negsuc k) piece = got
+unfoldable pub got_after_read : {E : Type 0} → Reading → List ℕ → List ℕ → Result ℕ E → List ℕ → List ℕ
+got_after_read r log got (Ok k) piece =
+    cond (eqb (min k (length piece)) 0) got (feed_got r log got (take (min k (length piece)) piece))
+got_after_read r log got (Err e) piece = got
 
 -- A reading, its log and its got codes as some bytes lead to, fed from the start with lists that have a place for each line that may come.
 pub record Came (r : Reading) (log got : List ℕ) : Type 0 where

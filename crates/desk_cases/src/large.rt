@@ -1,37 +1,38 @@
 // Inputs near the limits, built in a buffer.
 ghost use Rattle.std.specs.Prelude.{◌≤◌, length};
-ghost use Rattle.io.specs.Counts.{IsPrefixLen};
+ghost use Rattle.desk_text.specs.Writer.{Within};
 
 use crate::tally;
 use crate::tally::Tally;
+use itoa::Buffer;
 
 // Puts bytes behind the first `at` of a buffer, where there is room for them. Answers where they end.
 fn push(out: &mut [u8], at: usize, added: &[u8]) -> usize
     requires { at ≤ length out.old }
-    ensures { IsPrefixLen result out.new }
+    ensures { Within result out.new }
 {
     if added.len() > out.len() - at {
         return at;
     }
-    bytes::copy(added, &mut out[at..]);
-    at + added.len()
+    let end = at + added.len();
+    out[at..end].copy_from_slice(added);
+    end
 }
 
 fn push_line(out: &mut [u8], at: usize, word: &[u8], n: u32) -> usize
     requires { at ≤ length out.old }
-    ensures { IsPrefixLen result out.new }
+    ensures { Within result out.new }
 {
-    let mut text = [0u8; 20];
-    let digits = io::decimal(n as u64, &mut text);
+    let mut digits = Buffer::new();
     let number = push(&mut *out, at, word);
-    let end = push(&mut *out, number, &text[..digits]);
+    let end = push(&mut *out, number, digits.format(n).as_bytes());
     push(out, end, b"\n")
 }
 
 // `many` lines of a word, the first with the number `from`, and each next with one that is greater by `step`.
 fn push_lines(out: &mut [u8], at: usize, word: &[u8], from: u32, step: u32, many: u32) -> usize
     requires { at ≤ length out.old }
-    ensures { IsPrefixLen result out.new }
+    ensures { Within result out.new }
 {
     let mut end = at;
     let mut n = from;
@@ -44,7 +45,7 @@ fn push_lines(out: &mut [u8], at: usize, word: &[u8], from: u32, step: u32, many
 
 // The threshold 32, and `many` log lines with the numbers from `from` on.
 fn push_logs(out: &mut [u8], from: u32, many: u32) -> usize
-    ensures { IsPrefixLen result out.new }
+    ensures { Within result out.new }
 {
     let end = push(&mut *out, 0, b"threshold=32\n");
     push_lines(out, end, b"log=", from, 1, many)

@@ -1,7 +1,10 @@
 // The inputs that standard input lists, one to a line, each with what should be written.
+ghost use Rattle.std.specs.Prelude.{◌≤◌, length, IfOk};
+
 use crate::tally;
 use crate::tally::Tally;
-use libc::STDIN_FILENO;
+use std::io;
+use std::io::Read;
 
 // The byte that a byte of the list stands for. `|` and LF stand for each other, so a line of the list ends in `|` once its bytes are replaced.
 fn meant(byte: u8) -> u8 {
@@ -33,10 +36,9 @@ fn line(t: Tally, text: &[u8]) -> Tally {
     if text[0] == b'#' {
         return t;
     }
-    let end = bytes::scan::find(text, 0, text.len(), b'>');
-    if end == text.len() {
+    let Some(end) = text.iter().position(|b| *b == b'>') else {
         return t.with(false);
-    }
+    };
     let next = end + 1;
     t.case(&text[0..end], &text[next..])
 }
@@ -46,23 +48,38 @@ fn lines(t: Tally, text: &[u8]) -> Tally {
     let mut tally = t;
     let mut start: usize = 0;
     while start < text.len() {
-        let end = bytes::scan::find(text, start, text.len(), b'|');
-        if end == text.len() {
+        let Some(many) = text[start..].iter().position(|b| *b == b'|') else {
             return tally.with(false);
-        }
+        };
+        let end = start + many;
         tally = line(tally, &text[start..end]);
         start = end + 1;
     }
     tally
 }
 
+// Reads until the text is full or the input ends. Answers how many bytes came: each turn but the last reads one at least.
+fn read_full(input: &mut impl Read, text: &mut [u8]) -> io::Result<usize>
+    ensures { IfOk result (λ n. n ≤ length text.new) }
+{
+    let mut came: usize = 0;
+    for _ in 0..text.len() {
+        let n = input.read(&mut text[came..])?;
+        if n == 0 {
+            break;
+        }
+        came += n;
+    }
+    Ok(came)
+}
+
 // The whole list. One that fills the buffer may be longer than it, and is a difference.
-pub(crate) fn inputs(t: Tally) -> Tally {
+pub(crate) fn inputs(input: &mut impl Read, t: Tally) -> io::Result<Tally> {
     let mut text = tally::buffer();
-    let n = io::read_full(STDIN_FILENO, &mut text);
+    let n = read_full(input, &mut text)?;
     put_meant(&mut text);
     if n == text.len() {
-        return t.with(false);
+        return Ok(t.with(false));
     }
-    lines(t, &text[0..n])
+    Ok(lines(t, &text[0..n]))
 }

@@ -7,7 +7,7 @@ mod listed;
 mod tally;
 
 use crate::tally::Tally;
-use libc::STDOUT_FILENO;
+use std::io;
 
 fn large_inputs(t: Tally) -> Tally {
     let t = large::all_but_one(t);
@@ -22,10 +22,7 @@ fn large_inputs(t: Tally) -> Tally {
     large::long_lines(t)
 }
 
-fn main() {
-    let t = large_inputs(listed::inputs(Tally::new()));
-    io::print_decimal(STDOUT_FILENO, t.inputs as u64);
-    io::write_all(STDOUT_FILENO, b" inputs, ");
-    io::print_decimal(STDOUT_FILENO, t.differences as u64);
-    io::write_all(STDOUT_FILENO, b" differences\n");
+fn main(rt: HostRuntime) -> io::Result<()> {
+    let t = large_inputs(listed::inputs(&mut rt.stdin(), Tally::new())?);
+    println!(rt; "{} inputs, {} differences", t.inputs, t.differences)
 }

@@ -34,7 +34,7 @@ fn in_pieces(input: &[u8], expected: &[u8], size: usize) -> bool
     let mut out = buffer();
     let written = answer::finish(reading, &log, &got, &mut out);
     let n = written.value;
-    check::same(&out[..n], expected)
+    &out[..n] == expected
 }
 
 // The input at once.
@@ -42,7 +42,7 @@ fn at_once(input: &[u8], expected: &[u8]) -> bool {
     let mut out = buffer();
     let written = answer::answer(input, &mut out);
     let n = written.value;
-    check::same(&out[..n], expected)
+    &out[..n] == expected
 }
 
 // All ways of feeding an input give what is expected.

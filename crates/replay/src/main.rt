@@ -8,6 +8,8 @@ mod reading;
 use modint16::Word as Narrow;
 use operations32::slots::PLACES;
 use reading::Reading;
+use std::io;
+use std::io::Read;
 
 #[derive(Clone, Copy)]
 struct Turn {
@@ -16,55 +18,52 @@ struct Turn {
 }
 
 fn read_some(
+    input: &mut impl Read,
     line: &mut [u32; 512],
     slots: &mut [u32; PLACES],
     narrow: &mut [Narrow; PLACES],
     reading: Reading,
-) -> Turn {
-    let mut buffer = io::large_buffer();
-    let got = libc::read(0, &mut buffer);
-    if got <= 0 {
-        return Turn {
+) -> io::Result<Turn> {
+    let mut buffer = [0u8; 65536];
+    let n = input.read(&mut buffer)?;
+    if n == 0 {
+        return Ok(Turn {
             more: false,
             reading,
-        };
+        });
     }
-    let n = io::count(got, &buffer);
     let next = reading::feed(line, slots, narrow, reading, &buffer[..n]);
-    Turn {
+    Ok(Turn {
         more: true,
         reading: next,
-    }
+    })
 }
 
-// A proved loop has to end, and nothing says that the input does: the turns are counted down from a number that no run
-// uses up.
+// A proved loop has to end, and nothing says that the input does: the turns are counted to a number that no run reaches.
 fn read_all(
+    input: &mut impl Read,
     line: &mut [u32; 512],
     slots: &mut [u32; PLACES],
     narrow: &mut [Narrow; PLACES],
-) -> Reading {
-    let mut turns = u64::MAX;
+) -> io::Result<Reading> {
     let mut reading = reading::start();
-    let mut more = true;
-    while turns > 0 && more {
-        let turn = read_some(&mut *line, &mut *slots, &mut *narrow, reading);
-        more = turn.more;
-        let next = turn.reading;
-        reading = next;
-        turns -= 1;
+    for _ in 0..u64::MAX {
+        let turn = read_some(input, line, slots, narrow, reading)?;
+        reading = turn.reading;
+        if !turn.more {
+            break;
+        }
     }
-    reading
+    Ok(reading)
 }
 
-fn main() {
+fn main(rt: HostRuntime) -> io::Result<()> {
     let mut line = [0u32; 512];
     let mut slots = [0u32; PLACES];
     let mut narrow: [Narrow; PLACES] = [0; PLACES];
-    let read = read_all(&mut line, &mut slots, &mut narrow);
+    let read = read_all(&mut rt.stdin(), &mut line, &mut slots, &mut narrow)?;
     let ended = reading::finish(&mut line, &mut slots, &mut narrow, read);
-    io::print_decimal(1, ended.operations);
-    io::write_all(1, b" operations, ");
-    io::print_decimal(1, ended.differences);
-    io::write_all(1, b" differences\n");
+    let operations = ended.operations;
+    let differences = ended.differences;
+    println!(rt; "{operations} operations, {differences} differences")
 }

@@ -1,0 +1,9 @@
+-- What came is what is answered, and the buffer has room for every answer.
+-- Assumes nothing.
+use Rattle.desk.proofs.Input.{answered}
+use Rattle.desk.proofs.answer_input.Goals as goal
+
+pub returns-clause-answer : goal.returns-clause-answer
+returns-clause-answer g c =
+    let e = c.finish-written.ensures in
+    answered c.read_all-reading.ensures c.args.out.now c.requires e.answer e.text
