@@ -1,9 +1,11 @@
 // Runs the calls in place on cases of the bench, and writes how many there are and how many differ.
+#![tactic(auto)]
+
 ghost use Rattle.std.specs.Prelude.{◌≤◌};
 
-use libc::STDOUT_FILENO;
 use modint16::{Code, Residue, Word};
 use power_sum16::power_sum::{Last, PowerSumQuackU16};
+use std::io;
 
 // The last code, or the prime, which is no residue, for none.
 fn last_number(last: Last) -> Word {
@@ -116,14 +118,11 @@ fn one_unless(same: bool) -> u8
     if same { 0 } else { 1 }
 }
 
-fn main() {
+fn main(rt: HostRuntime) -> io::Result<()> {
     let differences = one_unless(two_insertions())
         + one_unless(back_and_forth(65535))
         + one_unless(back_and_forth(14))
         + one_unless(another_code())
         + one_unless(refused());
-    let digit = [b'0' + differences];
-    io::write_all(STDOUT_FILENO, b"5 cases, ");
-    io::write_all(STDOUT_FILENO, &digit);
-    io::write_all(STDOUT_FILENO, b" differences\n");
+    println!(rt; "5 cases, {differences} differences")
 }
