@@ -175,19 +175,19 @@ module _ (T c : ℕ) (l log got : List ℕ) (front : take (length l) log ≡ l) 
   holds_got : (g : List ℕ) → take (length g) got ≡ g → (room : Bool) → ltb (length g) most_lines ≡ room → most_lines ≤ length got
       → Holds (cond room (gots T l (g ++ (c ∷ []))) (stopped 10)) (cond room (got_desk (desk_of (gots T l g)) c) (empty_desk (Stopped 10))) log
       (cond room (set got (length g) c) got)
-  holds_got g got-front true e places =
+  holds_got g got_front true e places =
       let more = ltb-true (length g) most_lines e in
       let one_more : length (g ++ (c ∷ [])) ≡ suc (length g) = rw length-append (omega arith) in
       let within : length g < length got = omega arith in
       record {
         desk = rw (insert_more T g c range, one_more, add-one);
         entries = front;
-        arrived = one_stored c g got got-front within;
+        arrived = one_stored c g got got_front within;
         few = few;
         few_gots = omega arith;
         ranged = range;
       }
-  holds_got g got-front false e places = holds_stopped 10 log got
+  holds_got g got_front false e places = holds_stopped 10 log got
 
 -- A whole line does to the reader what it does to the rules.
 takes : (s : Seen) (l : Line) (log got : List ℕ) → Holds s (desk_of s) log got → most_lines ≤ length log → most_lines ≤ length got

@@ -72,8 +72,8 @@ unfolding meant first_digit
 first_digit_lem k b bs true digit p q = rw (number_by_digits kind32 b bs true digit p q, eqb-true b 48 p)
 first_digit_lem k b bs false true p q =
     let low : 48 ≤ b = leb-true 48 b (and_first (leb 48 b) (leb b 57) q) in
-    let some-value : eqb (b - 48) 0 ≡ false = ne_eqb (b - 48) 0 (λ e. eqb-false b 48 p (omega arith)) in
-    rw (number_by_digits kind32 b bs false true p q, q, some-value)
+    let some_value : eqb (b - 48) 0 ≡ false = ne_eqb (b - 48) 0 (λ e. eqb-false b 48 p (omega arith)) in
+    rw (number_by_digits kind32 b bs false true p q, q, some_value)
 first_digit_lem k b bs false false p q = rw (number_by_digits kind32 b bs false false p q, q)
 
 -- A byte of the word, or the one behind it.
@@ -90,8 +90,8 @@ value : (k : Key) (v b : ℕ) (bs : List ℕ) (nought digit : Bool) → eqb v 0 
 unfolding meant next_digit alone further
 value k v b bs true digit p q = rw p
 value k v b bs false true p q =
-    let some-value : eqb (v * 10 + (b - 48)) 0 ≡ false = ne_eqb (v * 10 + (b - 48)) 0 (λ e. eqb-false v 0 p (omega arith)) in
-    rw (p, q, some-value)
+    let some_value : eqb (v * 10 + (b - 48)) 0 ≡ false = ne_eqb (v * 10 + (b - 48)) 0 (λ e. eqb-false v 0 p (omega arith)) in
+    rw (p, q, some_value)
 value k v b bs false false p q = rw (p, q)
 
 -- Any byte: the rest of the line says what the whole of it says.

@@ -46,8 +46,8 @@ grows n (b ∷ bs) = le_trans (omega arith) (grows (n * 10 + (b - 48)) bs)
 first_value : (b : ℕ) (bs : List ℕ) → decimal_value 0 (b ∷ bs) ≡ decimal_value (b - 48) bs
 unfolding decimal_value
 first_value b bs =
-    let behind-nothing : 0 * 10 + (b - 48) ≡ b - 48 = omega arith in
-    ap (λ (n : ℕ). decimal_value n bs) behind-nothing
+    let behind_nothing : 0 * 10 + (b - 48) ≡ b - 48 = omega arith in
+    ap (λ (n : ℕ). decimal_value n bs) behind_nothing
 
 -- A test and false come to false.
 and_no : (t : Bool) → t && false ≡ false

@@ -96,7 +96,7 @@ count_from_lem n u = by_half (ltb n half_counts) refl
 -- ---- the end of the input
 
 -- The lines of a good input, of which the first places of the lent lists hold the entries and the got codes.
-module _ (T : ℕ) (l g log got : List ℕ) (range : InRange T) (front : take (length l) log ≡ l) (got-front : take (length g) got ≡ g)
+module _ (T : ℕ) (l g log got : List ℕ) (range : InRange T) (front : take (length l) log ≡ l) (got_front : take (length g) got ≡ g)
     (few : length l ≤ most_lines) (few_gots : length g ≤ most_lines) where
   -- The sketch of the pieces that are missing, or surplus.
   abbrev lacking : Sketch
@@ -140,7 +140,7 @@ module _ (T : ℕ) (l g log got : List ℕ) (range : InRange T) (front : take (l
       → decided_of (record { phase = p; entries = length l; gots = length g; sent = built (codes T l); arrived = built (codes T g) }) log got
       ≡ decided kind32 T l g lacking
   unfolding decided_of
-  decides p = rw (subtracted, front, got-front) tells
+  decides p = rw (subtracted, front, got_front) tells
 
 -- What the reader comes to is what the rules come to.
 ends : (s : Seen) (begun : List ℕ) (d : Desk) (log got : List ℕ) → Holds s d log got

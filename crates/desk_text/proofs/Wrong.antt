@@ -31,7 +31,7 @@ ten_only ten =
     (λ p. differs (λ (n : Number). n.refusal) (numbered (refused 1)) refl (ten _ p), λ p. differs (λ (n : Number). n.value) (counted 0) refl (ten _ p))
 
 -- The answer to a threshold of 0.
-module _ (κs : Lfts 2) (input : Bor (List ℕ)) (out : MutBor (List ℕ)) (input₁ : Bor (List ℕ)) (out₁ : MutBor (List ℕ)) (the-input : input.now ≡ bytes_of "threshold=0\n") (lent : out.now ≡ replicate 20 0) where
+module _ (κs : Lfts 2) (input : Bor (List ℕ)) (out : MutBor (List ℕ)) (input₁ : Bor (List ℕ)) (out₁ : MutBor (List ℕ)) (the_input : input.now ≡ bytes_of "threshold=0\n") (lent : out.now ≡ replicate 20 0) where
   -- What the contract of `answer` allows.
   abbrev Allowed : Number → Type 0
   Allowed n = answer.Post κs (input, (out, tt)) n (input₁, (out₁, tt))
@@ -40,7 +40,7 @@ module _ (κs : Lfts 2) (input : Bor (List ℕ)) (out : MutBor (List ℕ)) (inpu
   ten_bytes : (n : Number) → Allowed n → n ≡ counted 10
   ten_bytes n p =
       p.0
-      ∙ ap₂ (λ (i o : List ℕ). numbered (fitting (desk_answer kind32 i) (length o))) the-input lent
+      ∙ ap₂ (λ (i o : List ℕ). numbered (fitting (desk_answer kind32 i) (length o))) the_input lent
       ∙ ap (λ (text : List ℕ). numbered (fitting text 20)) examples.1
 
   -- `answer` allows neither wrong answer.
@@ -48,7 +48,7 @@ module _ (κs : Lfts 2) (input : Bor (List ℕ)) (out : MutBor (List ℕ)) (inpu
   answer_wrong = ten_only ten_bytes
 
 -- The answer to two got codes without a log line, into a buffer as long as it.
-module _ (κs : Lfts 2) (input : Bor (List ℕ)) (out : MutBor (List ℕ)) (input₁ : Bor (List ℕ)) (the-input : input.now ≡ bytes_of "threshold=2\ngot=10\ngot=2\n")
+module _ (κs : Lfts 2) (input : Bor (List ℕ)) (out : MutBor (List ℕ)) (input₁ : Bor (List ℕ)) (the_input : input.now ≡ bytes_of "threshold=2\ngot=10\ngot=2\n")
     (lent : out.now ≡ replicate 60 0) where
   -- What the contract of `answer` allows.
   abbrev AllowedSurplus : Number → MutBor (List ℕ) → Type 0
@@ -58,7 +58,7 @@ module _ (κs : Lfts 2) (input : Bor (List ℕ)) (out : MutBor (List ℕ)) (inpu
   surplus_told : fitting (desk_answer kind32 input.now) (length out.now)
       ≡ given (bytes_of "refusal=0\nthreshold=2\ncount=-2\nfound=2\nsurplus=10\nsurplus=2\n")
   surplus_told =
-      ap₂ (λ (i o : List ℕ). fitting (desk_answer kind32 i) (length o)) the-input lent ∙ ap (λ (text : List ℕ). fitting text 60) examples.15
+      ap₂ (λ (i o : List ℕ). fitting (desk_answer kind32 i) (length o)) the_input lent ∙ ap (λ (text : List ℕ). fitting text 60) examples.15
 
   -- The answer is sixty bytes long.
   sixty_bytes : (n : Number) (out₁ : MutBor (List ℕ)) → AllowedSurplus n out₁ → n ≡ counted 60

@@ -5,7 +5,7 @@ use contract.Lifetimes.{Lfts}
 use Rattle.rules.specs.Determines.{Holds, Determines, DeterminesBoth}
 use Rattle.rules.proofs.Determined.{by_equation, by_equations}
 use Rattle.exports16.proofs.power_sum.eddy16_new.Reads as new
-use Rattle.exports16.proofs.power_sum.eddy16_well_formed.Reads as well_formed_lem
+use Rattle.exports16.proofs.power_sum.eddy16_well_formed.Reads as well_formed_call
 use Rattle.exports16.proofs.power_sum.eddy16_insert.Reads as insert
 use Rattle.exports16.proofs.power_sum.eddy16_remove.Reads as remove
 use Rattle.exports16.proofs.power_sum.eddy16_sub_assign.Reads as sub_assign
@@ -67,7 +67,7 @@ module _ (a b : ℕ) where
 
 module _ (κs : Lfts 1) (s s' : Bor (List ℕ)) where
   -- The test of words has one answer.
-  pub well_formed_determined : Determines (λ r. well_formed_lem.Post κs (s, tt) r (s', tt))
+  pub well_formed_determined : Determines (λ r. well_formed_call.Post κs (s, tt) r (s', tt))
   well_formed_determined = by_equation _
 
   -- The signed count of words has one answer.

@@ -23,7 +23,7 @@ use Rattle.lent.specs.declared.Number.{Number}
 use Rattle.lent.specs.Answers.{counted}
 use Rattle.polynomial16.specs.declared.evaluator.Evaluated.{Evaluated}
 use Rattle.exports16.proofs.power_sum.eddy16_new.Reads as new
-use Rattle.exports16.proofs.power_sum.eddy16_well_formed.Reads as well_formed_lem
+use Rattle.exports16.proofs.power_sum.eddy16_well_formed.Reads as well_formed_call
 use Rattle.exports16.proofs.power_sum.eddy16_insert.Reads as insert
 use Rattle.exports16.proofs.power_sum.eddy16_remove.Reads as remove
 use Rattle.exports16.proofs.power_sum.eddy16_sub_assign.Reads as sub_assign
@@ -119,7 +119,7 @@ unfolding new_in calls.make fresh words_of
 new_wrong κs = all_differ itself itself (at (head_words kind16 + 3)) _ _ refl refl refl
 
 -- Words of a sketch are said to be none, or 2 is said.
-pub well_formed_wrong : (κs : Lfts 1) (s₁ : Bor (List ℕ)) → RefusesBoth (λ r. well_formed_lem.Post κs (lent both, tt) r (s₁, tt)) 0 2
+pub well_formed_wrong : (κs : Lfts 1) (s₁ : Bor (List ℕ)) → RefusesBoth (λ r. well_formed_call.Post κs (lent both, tt) r (s₁, tt)) 0 2
 unfolding every well_formed words_fit
 well_formed_wrong κs s₁ = both_differ itself _ _ refl refl
 

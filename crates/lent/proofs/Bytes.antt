@@ -1,9 +1,9 @@
 -- A number written byte by byte, and read byte by byte.
 -- Assumes nothing.
-use Prim.Native.Nat.{ℕ, suc, ◌+◌, ◌-◌, ◌*◌, ◌/◌, ◌%◌, ◌^◌, ◌≤◌, ◌<◌, min}
-use mathlib.Core.Path.{◌≡◌, sym, ◌∙◌, ap}
+use Prim.Native.Nat.{ℕ, suc, ◌+◌, ◌-◌, ◌*◌, ◌/◌, ◌%◌, ◌^◌, ◌≤◌, ◌<◌, zero-le, min}
+use mathlib.Core.Path.{◌≡◌, refl, sym, ◌∙◌, ap}
 use mathlib.Core.List.{List, [], ◌∷◌, ◌++◌}
-use native.Mathlib.Nat.{pow-succ', pow-le-pow_right, mul-le-mul_left}
+use native.Mathlib.Nat.{sub-zero, pow-zero, pow-succ', pow-le-pow_right, mul-le-mul_left}
 use native.Mathlib.Numerals.{add-one}
 use native.Mathlib.Omega.{arith}
 use lib.ListN.{length, get_or, take, drop, set, length-set, length-take, take-append-drop, drop_of_length-le}
@@ -19,6 +19,10 @@ pub record Filling (x : ℕ) (before now : List ℕ) (rest i : ℕ) : Type 0 whe
   pub whole : take i now ++ bytes (length before - i) rest ≡ bytes (length before) x
 
 module _ {x : ℕ} {before : List ℕ} where
+  -- At the start no byte is written, and the whole number is left.
+  pub filling_start : Filling x before before x 0
+  filling_start = record { within = zero-le; long = refl; whole = rw sub-zero }
+
   -- The lowest byte of what is left, and the rest.
   pub filling_turn : {now : List ℕ} {rest i v next : ℕ} → Filling x before now rest i → i < length before → v ≡ rest % 256 → next ≡ rest / 256
       → Filling x before (set now i v) next (i + 1)
@@ -51,6 +55,16 @@ pub record Weighing (part : List ℕ) (end sum weight i : ℕ) : Type 0 where
   pub whole : sum + 256 ^ i * number (drop i (take 8 part)) ≡ number (take 8 part)
 
 module _ {part : List ℕ} where
+  -- At the start no byte is read: the sum is 0, and the weight 1.
+  pub weighing_start : {end : ℕ} → end ≡ min (length part) 8 → Weighing part end 0 1 0
+  weighing_start e = record {
+    ends = e;
+    within = zero-le;
+    small = omega (arith, pow-zero 256);
+    weighs = λ l. sym (pow-zero 256);
+    whole = omega (arith, ap (λ (z : ℕ). z * number (take 8 part)) (pow-zero 256));
+  }
+
   module _ {end sum weight i byte : ℕ} (w : Weighing part end sum weight i) (h : i < end) (e : byte ≡ get_or part i 0) (b : byte < 256) where
     -- The weight is a power of 256, and one byte more than the sum has fits beside it.
     weight_is : weight ≡ 256 ^ i
@@ -61,6 +75,16 @@ module _ {part : List ℕ} where
     weighing_fits =
         rw (add-one, pow-succ', weight_is)
         (omega (arith, w.small, mul-le-mul_left {m = byte} {n = 255} (256 ^ i) (omega arith)))
+
+    -- So it fits 64 bits, and so does the next weight before the last byte.
+    pub weighing_within : sum + weight * byte < 18446744073709551616
+    weighing_within = omega (arith, weighing_fits, pow-le-pow_right {n = 256} (omega arith) {i = i + 1} {j = 8} (omega (arith, w.ends)))
+
+    -- The weight after any of the first seven bytes fits 64 bits.
+    pub weight_within : i < 7 → weight * 256 < 18446744073709551616
+    weight_within u =
+        let power : 256 ^ suc i ≡ 256 * 256 ^ i = pow-succ' 256 i in
+        omega (arith, power, weight_is, pow-le-pow_right {n = 256} (omega arith) {i = suc i} {j = 7} (omega arith))
 
     -- One byte more.
     pub weighing_turn : {next : ℕ} → (i < 7 → next ≡ weight * 256) → Weighing part end (sum + weight * byte) next (i + 1)

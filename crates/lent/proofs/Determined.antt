@@ -13,7 +13,7 @@ use Rattle.lent.proofs.Number.refused.Reads as refused
 use Rattle.lent.proofs.Number.wrote.Reads as wrote
 use Rattle.lent.proofs.smaller.Reads as smaller
 use Rattle.lent.proofs.put_number.Reads as put_number
-use Rattle.lent.proofs.number_of.Reads as number_of_lem
+use Rattle.lent.proofs.number_of.Reads as number_of
 use Rattle.lent.proofs.count_of.Reads as count_of
 use Rattle.lent.proofs.signed.Reads as signed
 use Rattle.lent.proofs.size.Reads as size
@@ -44,7 +44,7 @@ pub put_number_determined : (κs : Lfts 1) (part : MutBor (List ℕ)) (x : ℕ) 
 put_number_determined κs part x = left_by_equation _
 
 -- A part says one number.
-pub number_of_determined : (κs : Lfts 1) (part part' : Bor (List ℕ)) → Determines (λ r. number_of_lem.Post κs (part, tt) r (part', tt))
+pub number_of_determined : (κs : Lfts 1) (part part' : Bor (List ℕ)) → Determines (λ r. number_of.Post κs (part, tt) r (part', tt))
 number_of_determined κs part part' r r' p q = p.0 ∙ sym q.0
 
 -- A packet says one count.

@@ -4,3 +4,4 @@ pub mod Types
 pub mod Determined
 pub mod Wrong
 mod Bytes
+mod Registers

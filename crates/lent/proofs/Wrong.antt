@@ -16,7 +16,7 @@ use Rattle.lent.proofs.Number.refused.Reads as refused
 use Rattle.lent.proofs.Number.wrote.Reads as wrote
 use Rattle.lent.proofs.smaller.Reads as smaller
 use Rattle.lent.proofs.put_number.Reads as put_number
-use Rattle.lent.proofs.number_of.Reads as number_of_lem
+use Rattle.lent.proofs.number_of.Reads as number_of
 use Rattle.lent.proofs.count_of.Reads as count_of
 use Rattle.lent.proofs.signed.Reads as signed
 use Rattle.lent.proofs.size.Reads as size
@@ -41,7 +41,7 @@ unfolding bytes
 put_number_wrong κs = both_differ (λ (l : List ℕ). get_or l 1 0) _ _ refl refl
 
 -- The highest byte is taken for the lowest, or only one byte is read.
-pub number_of_wrong : (κs : Lfts 1) → RefusesBoth (λ r. number_of_lem.Post κs (lent (2 ∷ 1 ∷ []), tt) r (lent (2 ∷ 1 ∷ []), tt)) 513 2
+pub number_of_wrong : (κs : Lfts 1) → RefusesBoth (λ r. number_of.Post κs (lent (2 ∷ 1 ∷ []), tt) r (lent (2 ∷ 1 ∷ []), tt)) 513 2
 unfolding number
 number_of_wrong κs = (λ p. differs (λ (n : ℕ). n) 513 refl p.0, λ p. differs (λ (n : ℕ). n) 2 refl p.0)
 

@@ -30,11 +30,11 @@ convolution_of_powers f r (suc k) = omega (arith, convolution_of_powers (λ j. f
 -- ---- the identities
 
 -- The algebra of one more member r, with s for its negative: its powers' convolution leaves multiples of r + s, which is p.
-collected : (p r s k upper lower upper-sums lower-sums upper-powers lower-powers : ℕ) → r + s ≡ p → upper-powers ≡ r * lower-powers + lower * r
-    → suc k * (upper + s * lower) + ((upper-powers + s * lower-powers) + (upper-sums + s * lower-sums))
-    ≡ (suc k * upper + upper-sums) + s * (k * lower + lower-sums) + p * (lower + lower-powers)
-collected p r s k upper lower upper-sums lower-sums upper-powers lower-powers e powers =
-    omega (arith, ap (λ (x : ℕ). x * lower) e, ap (λ (x : ℕ). x * lower-powers) e)
+collected : (p r s k upper lower upper_sums lower_sums upper_powers lower_powers : ℕ) → r + s ≡ p → upper_powers ≡ r * lower_powers + lower * r
+    → suc k * (upper + s * lower) + ((upper_powers + s * lower_powers) + (upper_sums + s * lower_sums))
+    ≡ (suc k * upper + upper_sums) + s * (k * lower + lower_sums) + p * (lower + lower_powers)
+collected p r s k upper lower upper_sums lower_sums upper_powers lower_powers e powers =
+    omega (arith, ap (λ (x : ℕ). x * lower) e, ap (λ (x : ℕ). x * lower_powers) e)
 
 module _ (p : ℕ) where
   -- The leading coefficient is 1.

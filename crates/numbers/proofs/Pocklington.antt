@@ -14,8 +14,8 @@ use Rattle.numbers.proofs.Congruence.{mul_mod_right}
 use Rattle.numbers.proofs.Fermat.{fermat_one}
 use Rattle.numbers.proofs.Power.{pow_pow, pow_leaves_one, power_mod_lem}
 
-module _ (n q r a c : ℕ) (Q : IsPrime q) (whole : suc (q * r) ≡ n) (leaves-one : a ^ (q * r) % n ≡ 1)
-    (has-inverse : (a ^ r % n + (n - 1)) * c % n ≡ 1) (d : ℕ) (D : IsPrime d) (divides : d ∣ n) where
+module _ (n q r a c : ℕ) (Q : IsPrime q) (whole : suc (q * r) ≡ n) (leaves_one : a ^ (q * r) % n ≡ 1)
+    (has_inverse : (a ^ r % n + (n - 1)) * c % n ≡ 1) (d : ℕ) (D : IsPrime d) (divides : d ∣ n) where
   b : ℕ
   b = a ^ r
 
@@ -24,7 +24,7 @@ module _ (n q r a c : ℕ) (Q : IsPrime q) (whole : suc (q * r) ≡ n) (leaves-o
 
   power_q : b ^ q % d ≡ 1 % d
   unfolding b
-  power_q = ap (λ (x : ℕ). x % d) (pow_pow a r q) ∙ sym (mod-mod_of_dvd d (a ^ (q * r)) divides) ∙ ap (λ (x : ℕ). x % d) leaves-one
+  power_q = ap (λ (x : ℕ). x % d) (pow_pow a r q) ∙ sym (mod-mod_of_dvd d (a ^ (q * r)) divides) ∙ ap (λ (x : ℕ). x % d) leaves_one
 
   coprime : d ∣ b → ⊥
   coprime w = omega (arith, leaves_zero, power_q, one_left)
@@ -68,7 +68,7 @@ module _ (n q r a c : ℕ) (Q : IsPrime q) (whole : suc (q * r) ≡ n) (leaves-o
   -- But b less 1 has an inverse.
   order_not_one : b % d ≡ 1 % d → ⊥
   unfolding b
-  order_not_one e = omega (arith, one_left, ap (λ (x : ℕ). x % d) has-inverse, mod-mod_of_dvd d ((a ^ r % n + (n - 1)) * c) divides, product_zero)
+  order_not_one e = omega (arith, one_left, ap (λ (x : ℕ). x % d) has_inverse, mod-mod_of_dvd d ((a ^ r % n + (n - 1)) * c) divides, product_zero)
     where
       factor_zero : (a ^ r % n + (n - 1)) % d ≡ 0
       factor_zero =
@@ -89,9 +89,9 @@ module _ (n q r a c : ℕ) (Q : IsPrime q) (whole : suc (q * r) ≡ n) (leaves-o
 -- The same from three tests that the checker computes.
 pub pocklington : (n q r a c : ℕ) → IsPrime q → T (eqb (suc (q * r)) n) → T (eqb (power_mod n a (q * r)) 1) → T (eqb ((power_mod n a r + (n - 1)) * c % n) 1)
     → (d : ℕ) → IsPrime d → d ∣ n → q ∣ d - 1
-pocklington n q r a c Q whole leaves-one has-inverse =
-    divisor_of_multiple n q r a c Q (eqb→eq (suc (q * r)) n whole) (sym (power_mod_lem n a (q * r)) ∙ eqb→eq (power_mod n a (q * r)) 1 leaves-one)
-    (subst (λ (z : ℕ). (z + (n - 1)) * c % n ≡ 1) (power_mod_lem n a r) (eqb→eq ((power_mod n a r + (n - 1)) * c % n) 1 has-inverse))
+pocklington n q r a c Q whole leaves_one has_inverse =
+    divisor_of_multiple n q r a c Q (eqb→eq (suc (q * r)) n whole) (sym (power_mod_lem n a (q * r)) ∙ eqb→eq (power_mod n a (q * r)) 1 leaves_one)
+    (subst (λ (z : ℕ). (z + (n - 1)) * c % n ≡ 1) (power_mod_lem n a r) (eqb→eq ((power_mod n a r + (n - 1)) * c % n) 1 has_inverse))
 
 -- A divisor d of which d - 1 is a multiple of F is above the root of n, where n is below the square of F + 1.
 pub large_divisor : (F n d : ℕ) → n < suc F * suc F → 1 < d → F ∣ d - 1 → n < d * d

@@ -11,7 +11,7 @@ use Rattle.power_sum16.proofs.power_sum.PowerSumQuackU16.new.Reads as new
 use Rattle.power_sum16.proofs.power_sum.PowerSumQuackU16.threshold.Reads as threshold
 use Rattle.power_sum16.proofs.power_sum.PowerSumQuackU16.count.Reads as count
 use Rattle.power_sum16.proofs.power_sum.PowerSumQuackU16.last_value.Reads as last_value
-use Rattle.power_sum16.proofs.power_sum.PowerSumQuackU16.well_formed.Reads as well_formed_lem
+use Rattle.power_sum16.proofs.power_sum.PowerSumQuackU16.well_formed.Reads as well_formed_call
 use Rattle.power_sum16.proofs.power_sum.PowerSumQuackU16.insert.Reads as insert
 use Rattle.power_sum16.proofs.power_sum.PowerSumQuackU16.remove.Reads as remove
 use Rattle.power_sum16.proofs.power_sum.PowerSumQuackU16.sub_assign.Reads as sub_assign
@@ -47,7 +47,7 @@ module _ (s : PowerSumQuackU16) where
   last_value_determined = by_equation _
 
   -- The test of a sketch has one answer.
-  pub well_formed_determined : Determines (Holds (well_formed_lem.Post tt) (s, tt))
+  pub well_formed_determined : Determines (Holds (well_formed_call.Post tt) (s, tt))
   well_formed_determined = by_equation _
 
   -- Insertion has one answer.

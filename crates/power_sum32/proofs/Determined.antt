@@ -11,7 +11,7 @@ use Rattle.power_sum32.proofs.power_sum.PowerSumQuackU32.new.Reads as new
 use Rattle.power_sum32.proofs.power_sum.PowerSumQuackU32.threshold.Reads as threshold
 use Rattle.power_sum32.proofs.power_sum.PowerSumQuackU32.count.Reads as count
 use Rattle.power_sum32.proofs.power_sum.PowerSumQuackU32.last_value.Reads as last_value
-use Rattle.power_sum32.proofs.power_sum.PowerSumQuackU32.well_formed.Reads as well_formed_lem
+use Rattle.power_sum32.proofs.power_sum.PowerSumQuackU32.well_formed.Reads as well_formed_call
 use Rattle.power_sum32.proofs.power_sum.PowerSumQuackU32.insert.Reads as insert
 use Rattle.power_sum32.proofs.power_sum.PowerSumQuackU32.remove.Reads as remove
 use Rattle.power_sum32.proofs.power_sum.PowerSumQuackU32.sub_assign.Reads as sub_assign
@@ -47,7 +47,7 @@ module _ (s : PowerSumQuackU32) where
   last_value_determined = by_equation _
 
   -- The test of a sketch has one answer.
-  pub well_formed_determined : Determines (Holds (well_formed_lem.Post tt) (s, tt))
+  pub well_formed_determined : Determines (Holds (well_formed_call.Post tt) (s, tt))
   well_formed_determined = by_equation _
 
   -- Insertion has one answer.

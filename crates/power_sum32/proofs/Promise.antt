@@ -134,7 +134,7 @@ gives : (s₀ : PowerSumQuackU32) (o : Outcome Sketch) → Numbered o → (s : P
 gives s₀ (refused n) h s e = absurd (false≢true (sym h ∙ eq-eqb n 0 (sym (ap (λ (a : Answer). a.refusal) e))))
 gives s₀ (given g) h s e =
     let same : s ≡ built g = ap (λ (a : Answer). a.sketch) e in
-    record { sketch-given = g; comes = refl; stands = λ w. rw same (record { fits = built_well_formed g w; is = view_built g w }) }
+    record { sketch_given = g; comes = refl; stands = λ w. rw same (record { fits = built_well_formed g w; is = view_built g w }) }
 
 -- So it is in place.
 gives_in_place : (s₀ : PowerSumQuackU32) (o : Outcome Sketch) → Numbered o → (s : PowerSumQuackU32) → Promised types (sketch_answer s₀ o) (0, s)

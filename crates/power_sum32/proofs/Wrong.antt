@@ -30,7 +30,7 @@ use Rattle.power_sum32.proofs.power_sum.PowerSumQuackU32.new.Reads as new
 use Rattle.power_sum32.proofs.power_sum.PowerSumQuackU32.threshold.Reads as threshold
 use Rattle.power_sum32.proofs.power_sum.PowerSumQuackU32.count.Reads as count
 use Rattle.power_sum32.proofs.power_sum.PowerSumQuackU32.last_value.Reads as last_value
-use Rattle.power_sum32.proofs.power_sum.PowerSumQuackU32.well_formed.Reads as well_formed_lem
+use Rattle.power_sum32.proofs.power_sum.PowerSumQuackU32.well_formed.Reads as well_formed_call
 use Rattle.power_sum32.proofs.power_sum.PowerSumQuackU32.insert.Reads as insert
 use Rattle.power_sum32.proofs.power_sum.PowerSumQuackU32.remove.Reads as remove
 use Rattle.power_sum32.proofs.power_sum.PowerSumQuackU32.insert_once.Reads as insert_once
@@ -95,7 +95,7 @@ unfolding fresh sketch.insert
 last_value_wrong = both_differ last_number _ _ refl refl
 
 -- A well-formed sketch is said to be none, and one of threshold 0 to be one.
-pub well_formed_wrong : (Holds (well_formed_lem.Post tt) (both, tt) false → ⊥) × (Holds (well_formed_lem.Post tt) (empty, tt) true → ⊥)
+pub well_formed_wrong : (Holds (well_formed_call.Post tt) (both, tt) false → ⊥) × (Holds (well_formed_call.Post tt) (empty, tt) true → ⊥)
 unfolding fresh each every well_formed sketch.insert
 well_formed_wrong = (differs yes_or_no false refl, differs yes_or_no true refl)
 

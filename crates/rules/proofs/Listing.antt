@@ -140,14 +140,14 @@ module _ {test : ℕ → Bool} {log before : List ℕ} where
       -- An entry that fails leaves the buffer as it is.
       pub listing_failing : test (get_or log i 0) ≡ false → Listing test log before now n (i + 1)
       listing_failing t =
-          let None-more = keep_failing test log i l t in
+          let none_more = keep_failing test log i l t in
           record {
             within = omega arith;
             fewer = omega (arith, k.fewer);
             room = omega arith;
             long = k.long;
-            many = rw None-more k.many;
-            front = rw None-more k.front;
+            many = rw none_more k.many;
+            front = rw none_more k.front;
           }
 
     -- A block of m entries, of which r pass: they are written over the front of what stands behind the first n.

@@ -47,9 +47,9 @@ module _ (K : Kind) (cs : List ℕ) (x : ℕ) where
   power_after {power} {square} j e es =
       let same : power % p ≡ x ^ j % p = ap (λ (z : ℕ). z % p) e ∙ mod-mod (x ^ j) p in
       let squared : square % p ≡ (x * x) % p = ap (λ (z : ℕ). z % p) es ∙ mod-mod (x * x) p in
-      let two-more : j + 2 ≡ suc (suc j) = omega arith in
+      let two_more : j + 2 ≡ suc (suc j) = omega arith in
       let split : x ^ (j + 2) ≡ x ^ j * (x * x) =
-      ap (λ (m : ℕ). x ^ m) two-more ∙ pow-suc x (suc j) ∙ ap (λ (z : ℕ). z * x) (pow-suc x j) ∙ mul_assoc (x ^ j) x x in
+      ap (λ (m : ℕ). x ^ m) two_more ∙ pow-suc x (suc j) ∙ ap (λ (z : ℕ). z * x) (pow-suc x j) ∙ mul_assoc (x ^ j) x x in
       mul_congruent p power (x ^ j) square (x * x) same squared ∙ ap (λ (z : ℕ). z % p) (sym split)
 
   -- One coefficient more, and the next power.

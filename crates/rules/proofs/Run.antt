@@ -35,9 +35,9 @@ module _ (K : Kind) (C : Calls) where
 
   -- A form is what an outcome gives: it stands for the sketch given, where that is well formed.
   pub record Gives (o : Outcome Sketch) (s : C.Form) : Type 0 where
-    pub sketch-given : Sketch
-    pub comes : o ≡ given sketch-given
-    pub stands : WellFormed K sketch-given → Stands s sketch-given
+    pub sketch_given : Sketch
+    pub comes : o ≡ given sketch_given
+    pub stands : WellFormed K sketch_given → Stands s sketch_given
 
   -- Each call answers what its rule says of the forms that it is given.
   pub record Sound : Type 0 where
@@ -63,7 +63,7 @@ module _ (K : Kind) (C : Calls) (sound : Sound K C) where
   -- What is given without a refusal stands for the rule's sketch.
   follows_on : {o : Outcome Sketch} {g : Sketch} {s : C.Form} → Gives K C o s → o ≡ given g → WellFormed K g → Stands K C s g
   follows_on {o} {g} {s} gives e w =
-      let same : gives.sketch-given ≡ g = given_same (sym gives.comes ∙ e) in
+      let same : gives.sketch_given ≡ g = given_same (sym gives.comes ∙ e) in
       (rw same at gives.stands) w
 
   -- Such a history is one that the rules allow, and the form stands for its sketch.
@@ -80,7 +80,7 @@ module _ (K : Kind) (C : Calls) (sound : Sound K C) where
   unfolding calls.make
   after_new t s p =
       let gives = sound.makes t s p in
-      let there = passed (in_range K t) 1 (given (sketch.fresh t)) gives.sketch-given gives.comes in
+      let there = passed (in_range K t) 1 (given (sketch.fresh t)) gives.sketch_given gives.comes in
       let range = in_range_parts K t there.0 in
       record { allowed = range; stands = follows_on gives (rw there.0) (well (history.fresh t) range) }
 
@@ -126,7 +126,7 @@ module _ (K : Kind) (C : Calls) (sound : Sound K C) where
         let gives = sound.subtracts_in_place s o s' p in
         let comes = rw (f.stands.fits, e.stands.fits, f.stands.is, e.stands.is) at gives.comes in
         let same = eqb (sketch_of K h).threshold (sketch_of K k).threshold in
-        let there = passed same 2 (given (sketch.subtract K (sketch_of K h) (sketch_of K k))) gives.sketch-given comes in
+        let there = passed same 2 (given (sketch.subtract K (sketch_of K h) (sketch_of K k))) gives.sketch_given comes in
         let agree = eqb-true (sketch_of K h).threshold (sketch_of K k).threshold there.0 in
         record {
           allowed = (f.allowed, e.allowed, agree);
@@ -239,7 +239,7 @@ module _ (K : Kind) (C : Calls) (sound : Sound K C) where
   pub read_fits : (bs : List ℕ) → AllBelow 256 bs → {s : C.Form} → C.reads bs s → C.fits s ≡ true
   read_fits bs below {s} p =
       let g = sound.reads bs s p in
-      (g.stands (read_well_formed K bs g.sketch-given g.comes below)).fits
+      (g.stands (read_well_formed K bs g.sketch_given g.comes below)).fits
 
   -- Read and written again, a packet gives its first bytes, as many as its sums say, with the last code reduced.
   pub read_and_written : (bs : List ℕ) → AllBelow 256 bs → {s : C.Form} {again : List ℕ} → C.reads bs s → C.writes s again
@@ -249,7 +249,7 @@ module _ (K : Kind) (C : Calls) (sound : Sound K C) where
   unfolding sketch_in
   read_and_written bs below {s} {again} p q =
       let g = sound.reads bs s p in
-      let st = g.stands (read_well_formed K bs g.sketch-given g.comes below) in
+      let st = g.stands (read_well_formed K bs g.sketch_given g.comes below) in
       let w = sound.writes s again q in
-      let many : g.sketch-given.threshold ≡ sums_in K (length bs) = ap (λ (k : Sketch). k.threshold) (read_is_said K bs g.sketch-given g.comes) in
-      given_again K bs g.sketch-given g.comes below w.0 again (rw (st.fits, st.is) at w.1) ∙ rw many
+      let many : g.sketch_given.threshold ≡ sums_in K (length bs) = ap (λ (k : Sketch). k.threshold) (read_is_said K bs g.sketch_given g.comes) in
+      given_again K bs g.sketch_given g.comes below w.0 again (rw (st.fits, st.is) at w.1) ∙ rw many

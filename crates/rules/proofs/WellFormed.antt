@@ -191,8 +191,8 @@ module _ (K : Kind) where
   fit_zeros threshold k [] l t = refl
   fit_zeros threshold k (s ∷ places) l t =
       let past : ltb k threshold ≡ false = le-ltb k threshold l in
-      let zero-here : s ≡ 0 = eqb-true s 0 (and_first (eqb s 0) _ (rw past at t)) in
-      ap₂ (λ (x : ℕ) (xs : List ℕ). x ∷ xs) zero-here (fit_zeros threshold (suc k) places (omega arith) (and_second (eqb s 0) _ (rw past at t)))
+      let zero_here : s ≡ 0 = eqb-true s 0 (and_first (eqb s 0) _ (rw past at t)) in
+      ap₂ (λ (x : ℕ) (xs : List ℕ). x ∷ xs) zero_here (fit_zeros threshold (suc k) places (omega arith) (and_second (eqb s 0) _ (rw past at t)))
 
   fit_rest : (threshold k j : ℕ) (places : List ℕ) → threshold - k ≡ j → every (place_fits K threshold) k places ≡ true
       → drop j places ≡ replicate (length places - j) 0
