@@ -5,7 +5,7 @@
  * first, and decode: out of the log of what was sent come the entries that did not arrive. Where more arrived than was sent, decode the
  * surplus: out of the log of what arrived come the entries that are too many.
  *
- * The functions are those of the crate exports32, whose contracts are proved. eddybridge16.h has the same calls for 16-bit codes, and a
+ * The functions are those of the crate exports32_c, whose contracts are proved. eddybridge16.h has the same calls for 16-bit codes, and a
  * program may use both.
  *
  *
@@ -17,9 +17,9 @@
  *     bindings/archive
  *     cc -I include program.c target/lib/$(uname -m)/libeddybridge32.a -o program
  *
- * The Rattle toolchain makes archives for x86-64 Linux, and such an archive does not link on Arm. There `bindings/archive` goes by way of
- * `bench/native-kit`: the same proved functions, through the same compiler, for the machine at hand. `bindings/archive x86_64` makes the
- * toolchain's own archives on any machine.
+ * The Rattle kit makes archives for x86-64 Linux, for processors of x86-64-v2 and above, and such an archive does not link on Arm. There
+ * `bindings/archive` goes by way of `bench/native-kit`, if the kit's compiler runs on that machine: the same proved functions, through the
+ * same compiler, for the machine at hand. Otherwise it makes nothing, and says so.
  *
  *
  * Codes and residues

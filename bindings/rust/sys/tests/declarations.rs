@@ -177,7 +177,7 @@ impl Width {
 
     /// The functions of every source file of the crate that the archive is made of.
     fn written_in_source(&self) -> Functions {
-        let folder = format!("{}/../../../crates/exports{}/src", env!("CARGO_MANIFEST_DIR"), self.bits);
+        let folder = format!("{}/../../../crates/exports{}_c/src", env!("CARGO_MANIFEST_DIR"), self.bits);
         let files = fs::read_dir(&folder).unwrap_or_else(|error| panic!("{folder}: {error}"));
         let texts = files.map(|file| fs::read_to_string(file.expect("a file").path()).expect("its text"));
         let text: String = texts.collect();
