@@ -9,12 +9,14 @@ ghost use Rattle.rules.specs.Packet.{bytes, number};
 ghost use Rattle.rules.specs.Calls.{refused};
 ghost use Rattle.lent.specs.Answers.{numbered, counted};
 
+pub mod refusal;
+
 // The bytes of a count, at every width.
 pub const COUNT_BYTES: usize = 4;
 
 // How many numbers or bytes were written, or the number of a refusal and 0.
 #[repr(C)]
-#[derive(Clone, Copy)]
+#[derive(Clone, Copy, Debug, PartialEq, Eq)]
 pub struct Number {
     pub refusal: u32,
     pub value: usize,
@@ -37,13 +39,7 @@ impl Number {
 pub fn smaller(a: usize, b: usize) -> usize
     ensures { result ≡ min a b }
 {
-    if a < b { a } else { b }
-}
-
-fn wide(byte: u8) -> u64
-    ensures { (result ≡ byte) × (result < 256) }
-{
-    byte as u64
+    a.min(b)
 }
 
 // A number over the whole of a part, in as many bytes as the part has.
@@ -51,9 +47,9 @@ pub fn put_number(part: &mut [u8], x: u64)
     ensures { part.new ≡ bytes (length part.old) x }
 {
     let mut rest = x;
-    for i in 0..part.len() {
-        part[i] = (rest % 256) as u8;
-        rest = rest / 256;
+    for byte in part {
+        *byte = (rest % 256) as u8;
+        rest /= 256;
     }
 }
 
@@ -62,12 +58,11 @@ pub fn number_of(part: &[u8]) -> u64
     ensures value { result ≡ number (take 8 part.now) }
     ensures fits { result < 256 ^ length part.now }
 {
-    let end = smaller(part.len(), 8);
-    let mut sum: u64 = 0;
+    let mut sum = 0;
     let mut weight: u64 = 1;
-    for i in 0..end {
-        sum = sum + weight * wide(part[i]);
-        weight = if i < 7 { weight * 256 } else { weight };
+    for byte in &part[..part.len().min(8)] {
+        sum += weight * u64::from(*byte);
+        weight = weight.wrapping_mul(256);
     }
     sum
 }
@@ -85,24 +80,14 @@ pub fn count_of(part: &[u8]) -> u32
 pub fn signed(count: u32) -> i32
     ensures { result ≡ signed_count count }
 {
-    if count < 2147483648 {
-        count as i32
-    } else {
-        let past = (4294967295 - count) as i32;
-        -1 - past
-    }
+    count.cast_signed()
 }
 
 // The size of a signed number. That of the lowest is no signed number, so one is added once it is unsigned.
 pub fn size(number: i32) -> u32
     ensures { result ≡ nat_abs number }
 {
-    if number < 0 {
-        let past = -1 - number;
-        (past as u32) + 1
-    } else {
-        number as u32
-    }
+    number.unsigned_abs()
 }
 
 // How many a signed number is below zero, 0 for one that is not.

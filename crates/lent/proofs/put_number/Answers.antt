@@ -3,8 +3,8 @@ use Rattle.std.proofs.Common.{refl}
 use Rattle.lent.proofs.Bytes.{filling_turn, filling_done}
 use Rattle.lent.proofs.put_number.Goals as goal
 
-pub loop-i-preserved : goal.loop-i-preserved
-loop-i-preserved c = filling_turn c.loop-i.invariant c.loop-i-test.true refl refl
+pub loop-byte-preserved : goal.loop-byte-preserved
+loop-byte-preserved c = filling_turn c.loop-byte.invariant c.loop-byte-test.true refl refl
 
 pub returns : goal.returns
-returns c = filling_done c.loop-i.invariant c.loop-i-test.false
+returns c = filling_done c.loop-byte.invariant c.loop-byte-test.false

@@ -2,5 +2,5 @@
 use Rattle.lent.proofs.Bytes.{Filling}
 use Rattle.lent.proofs.put_number.Given as goal
 
-abbrev pub invariant-loop-i : goal.invariant-loop-i
-invariant-loop-i l = Filling l.x l.fn.part l.part l.rest l.i
+abbrev pub invariant-loop-byte : goal.invariant-loop-byte
+invariant-loop-byte l = Filling l.x l.fn.part l.byte-items l.rest l.byte-index
