@@ -1,7 +1,3 @@
 -- What is proved of the desk's text beside the functions' contracts, a file for each matter.
-pub mod Stores
-pub mod Decision
-pub mod Meaning
-pub mod Promise
-pub mod Determined
-pub mod Wrong
+pub mod Pushes
+pub mod Digits
