@@ -12,13 +12,13 @@ use lib.Seq.{drop-cons}
 use borrow.Author.Tests.{lt-ltb, le-ltb, ne_eqb}
 use Rattle.desk_rules.specs.Lines.{LF}
 use Rattle.desk_rules.specs.Desk.{most_lines}
-use Rattle.desk_reader.specs.declared.Key.{Key}
-use Rattle.desk_reader.specs.declared.Key.TheVariants.{Threshold, Log, Got}
-use Rattle.desk_reader.specs.declared.Line.{Line}
-use Rattle.desk_reader.specs.declared.Line.TheVariants.{Fresh, Word, Value, Bad}
-use Rattle.desk_reader.specs.declared.Phase.{Phase}
-use Rattle.desk_reader.specs.declared.Phase.TheVariants.{Unbegun, Logs, Gots, Stopped}
-use Rattle.desk_reader.specs.declared.Desk.{Desk}
+use Rattle.desk_reader.specs.declared.bytes.Key.{Key}
+use Rattle.desk_reader.specs.declared.bytes.Key.TheVariants.{Threshold, Log, Got}
+use Rattle.desk_reader.specs.declared.bytes.Line.{Line}
+use Rattle.desk_reader.specs.declared.bytes.Line.TheVariants.{Fresh, Word, Value, Bad}
+use Rattle.desk_reader.specs.declared.lines.Phase.{Phase}
+use Rattle.desk_reader.specs.declared.lines.Phase.TheVariants.{Unbegun, Logs, Gots, Stopped}
+use Rattle.desk_reader.specs.declared.lines.Desk.{Desk}
 use Rattle.desk_reader.specs.Reader.{word_of, word_byte, first_digit, line_byte, by_phase, take_line, taken_log, taken_got, Standing, standing, reading}
 use Rattle.desk_reader.specs.Reader.{byte_taken, byte_of, fed_of}
 

@@ -3,5 +3,5 @@ use Rattle.desk_reader.specs.Reader.{standing, reading}
 use Rattle.desk_reader.proofs.Steps.{Partly}
 use Rattle.desk_reader.proofs.take_bytes.Given as goal
 
-abbrev pub invariant-loop-i : goal.invariant-loop-i
-invariant-loop-i l = Partly (standing l.fn.r l.fn.log l.fn.got) l.piece l.i-end (standing (reading l.desk l.line) l.log l.got) l.i
+abbrev pub invariant-loop-b : goal.invariant-loop-b
+invariant-loop-b l = Partly (standing l.fn.r l.fn.log l.fn.got) l.piece l.b-index-end (standing (reading l.desk l.line) l.log l.got) l.b-index
