@@ -24,8 +24,8 @@ use Rattle.power_sum32.specs.declared.power_sum.Answer.{Answer}
 use Rattle.lent.specs.declared.Number.{Number}
 use Rattle.lent.specs.Answers.{numbered}
 use Rattle.power_sum32.specs.Answers.{view, well_formed_of, sub_assign_of, decode_of, decode_surplus_of}
-use Rattle.desk_reader.specs.declared.Phase.{Phase}
-use Rattle.desk_reader.specs.declared.Desk.{Desk}
+use Rattle.desk_reader.specs.declared.lines.Phase.{Phase}
+use Rattle.desk_reader.specs.declared.lines.Desk.{Desk}
 use Rattle.desk_reader.specs.declared.Reading.{Reading}
 use Rattle.desk_text.specs.Writer.{count_from}
 use Rattle.desk_text.specs.Answer.{is_fresh, below_of, listed_of, decided_of, settled_of, ended_by, outcome_of, Bounded, in_bounds, finish_of}

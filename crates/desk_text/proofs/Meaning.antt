@@ -9,6 +9,8 @@ use lib.Dec.{eqb, leb, ltb}
 use lib.IntN.{ℤ, pos, negsuc}
 use lib.ListN.{length, get_or, take}
 use borrow.Author.Tests.{le-leb, ltb-true, ltb-false, eq-eqb}
+use Rattle.std.specs.Prelude.{Result}
+use Rattle.std.specs.Result.{result_unwrap_or}
 use Rattle.rules.specs.Kind.{kind32, counts, half_counts}
 use Rattle.rules.specs.Signed.{signed_count, below_zero}
 use Rattle.rules.specs.Calls.{fitting}
@@ -22,14 +24,14 @@ use Rattle.rules.proofs.WellFormed.{subtract_well_formed}
 use Rattle.desk_rules.proofs.Desk.{state_after, read_after}
 use Rattle.power_sum32.specs.Answers.{built, answered, sub_assign_of, decode_of, decode_surplus_of}
 use Rattle.power_sum32.proofs.Struct.{view_built, built_well_formed}
-use Rattle.desk_reader.specs.declared.Key.TheVariants.{Threshold, Log, Got}
-use Rattle.desk_reader.specs.declared.Line.{Line}
-use Rattle.desk_reader.specs.declared.Line.TheVariants.{Fresh, Word, Value, Bad}
-use Rattle.desk_reader.specs.declared.Phase.{Phase}
-use Rattle.desk_reader.specs.declared.Phase.TheVariants.{Logs, Gots}
-use Rattle.desk_reader.specs.declared.Desk.{Desk}
+use Rattle.desk_reader.specs.declared.bytes.Key.TheVariants.{Threshold, Log, Got}
+use Rattle.desk_reader.specs.declared.bytes.Line.{Line}
+use Rattle.desk_reader.specs.declared.bytes.Line.TheVariants.{Fresh, Word, Value, Bad}
+use Rattle.desk_reader.specs.declared.lines.Phase.{Phase}
+use Rattle.desk_reader.specs.declared.lines.Phase.TheVariants.{Logs, Gots}
+use Rattle.desk_reader.specs.declared.lines.Desk.{Desk}
 use Rattle.desk_reader.specs.declared.Reading.{Reading}
-use Rattle.desk_reader.specs.declared.Fed.{Fed}
+use Rattle.lent.specs.declared.refusal.Refusal.{Refusal}
 use Rattle.desk_reader.specs.Reader.{word_of, first_byte, word_byte, first_digit, next_digit, line_byte, Standing, standing, reading, start_of}
 use Rattle.desk_reader.specs.Reader.{feed_answer, feed_log, feed_got}
 use Rattle.desk_reader.proofs.Parse.{led}
@@ -151,7 +153,7 @@ ends (logs T l) [] d log got h = rw h.desk (decides T l [] log got h.ranged h.en
 ends (logs T l) (b ∷ bs) d log got h = rw (h.desk, bytes_begun Fresh b bs)
 ends (gots T l g) [] d log got h = rw h.desk (decides T l g log got h.ranged h.entries h.arrived h.few h.few_gots Gots)
 ends (gots T l g) (b ∷ bs) d log got h = rw (h.desk, bytes_begun Fresh b bs)
-ends (stopped n) begun d log got h = rw h.desk
+ends (stopped n) begun d log got h = rw (h.desk, h.ranged)
 
 -- So the text is the rules' answer.
 text : (bs : List ℕ) (w : Standing) → Tied (state_after kind32 bs) w → printed (outcome_of w.reading w.log w.got) ≡ desk_answer kind32 bs
@@ -177,8 +179,8 @@ module _ (bs : List ℕ) (r : Reading) (log got : List ℕ) (tied : Tied (state_
       finish_with r log got room (bounds_tested r.desk log got bounded) ∙ ap (λ (t : List ℕ). fitting t room) (text bs (standing r log got) tied)
 
 -- A whole input as one piece.
-pub whole_input : (log got input log' got' : List ℕ) (r : Reading) (z : Fed) (room : ℕ) → most_lines ≤ length log → most_lines ≤ length got → r ≡ start_of
+pub whole_input : (log got input log' got' : List ℕ) (r : Reading) (z : Result Reading Refusal) (room : ℕ) → most_lines ≤ length log → most_lines ≤ length got → r ≡ start_of
     → z ≡ feed_answer r log got input → log' ≡ feed_log r log got input → got' ≡ feed_got r log got input
-    → finish_of z.reading log' got' room ≡ fitting (desk_answer kind32 input) room
+    → finish_of (result_unwrap_or z r) log' got' room ≡ fitting (desk_answer kind32 input) room
 whole_input log got input log' got' r z room places got_places e f g h =
     rw (f, g, h, e) (tied_finish input _ _ _ (tied_feed [] start_of log got (tied_start log got places got_places) input) room)

@@ -6,13 +6,14 @@ use Rattle.power_sum32.specs.declared.power_sum.Answer.{Answer}
 use Rattle.power_sum32.specs.Answers.{sub_assign_of, signed_count_of, decode_of, decode_surplus_of}
 use Rattle.rules.specs.Signed.{below_zero}
 use Rattle.rules.specs.Calls.{Outcome, refused, unless, fitting}
+use Rattle.lent.specs.Refusals.{number_of}
 use Rattle.desk_rules.specs.Desk.{most_lines, Report, reported}
 use Rattle.desk_rules.specs.Text.{printed}
-use Rattle.desk_reader.specs.declared.Line.{Line}
-use Rattle.desk_reader.specs.declared.Line.TheVariants.{Fresh, Word, Value, Bad}
-use Rattle.desk_reader.specs.declared.Phase.{Phase}
-use Rattle.desk_reader.specs.declared.Phase.TheVariants.{Unbegun, Logs, Gots, Stopped}
-use Rattle.desk_reader.specs.declared.Desk.{Desk}
+use Rattle.desk_reader.specs.declared.bytes.Line.{Line}
+use Rattle.desk_reader.specs.declared.bytes.Line.TheVariants.{Fresh, Word, Value, Bad}
+use Rattle.desk_reader.specs.declared.lines.Phase.{Phase}
+use Rattle.desk_reader.specs.declared.lines.Phase.TheVariants.{Unbegun, Logs, Gots, Stopped}
+use Rattle.desk_reader.specs.declared.lines.Desk.{Desk}
 use Rattle.desk_reader.specs.declared.Reading.{Reading}
 use Rattle.desk_text.specs.Writer.{count_from}
 
@@ -53,7 +54,7 @@ abbrev pub ended_by : Phase → Outcome Report → Outcome Report
 ended_by Unbegun o = refused 9
 ended_by Logs o = o
 ended_by Gots o = o
-ended_by (Stopped n) o = refused n
+ended_by (Stopped refusal) o = refused (number_of refusal)
 
 -- What the reading comes to at the end of the input.
 unfoldable pub outcome_of : Reading → List ℕ → List ℕ → Outcome Report

@@ -103,7 +103,7 @@ fn end(r: Reading, log: &[u32], got: &[u32], out: &mut [u8]) -> Number
         Phase::Unbegun => writer::write_refused(out, 9),
         Phase::Logs => settle(r, log, got, out),
         Phase::Gots => settle(r, log, got, out),
-        Phase::Stopped(n) => writer::write_refused(out, n),
+        Phase::Stopped(refusal) => writer::write_refused(out, refusal.number()),
     }
 }
 
@@ -148,7 +148,7 @@ pub fn answer(input: &[u8], out: &mut [u8]) -> Number
 {
     let mut log = [0u32; 8192];
     let mut got = [0u32; 8192];
-    let fed = desk_reader::feed(desk_reader::start(), &mut log, &mut got, input);
-    let reading = fed.reading;
+    let start = desk_reader::start();
+    let reading = desk_reader::feed(start, &mut log, &mut got, input).unwrap_or(start);
     finish(reading, &log, &got, out)
 }

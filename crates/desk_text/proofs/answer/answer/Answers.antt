@@ -11,6 +11,7 @@ places = omega (arith, length-replicate {A = ℕ} 8192 0)
 
 pub returns : goal.returns
 returns c =
-    let e = whole_input (replicate 8192 0) (replicate 8192 0) c.args.input.now c.feed-fed.new.log c.feed-fed.new.got c.start.result c.feed-fed.result
-    (length c.args.out.now) places places c.start.ensures c.feed-fed.ensures.answer c.feed-fed.ensures.log c.feed-fed.ensures.got in
-    record { answer = rw e at c.finish.ensures.answer; text = rw e at c.finish.ensures.text; within = c.finish.ensures.within }
+    let e = whole_input (replicate 8192 0) (replicate 8192 0) c.args.input.now c.feed.new.log c.feed.new.got c.start-start.result c.feed.result
+    (length c.args.out.now) places places c.start-start.ensures c.feed.ensures.answer c.feed.ensures.log c.feed.ensures.got in
+    let stands = rw c.unwrap_or-reading.ensures at c.finish.ensures in
+    record { answer = rw e at stands.answer; text = rw e at stands.text; within = c.finish.ensures.within }
