@@ -10,6 +10,7 @@ use lib.ListN.{length, take}
 use lib.Seq.{take-append_seam}
 use borrow.Author.Tests.{le-leb}
 use Rattle.std.specs.Prelude.{min, Result, Ok, Err}
+use Rattle.std.specs.Result.{result_unwrap_or}
 use Rattle.rules.specs.Kind.{kind32}
 use Rattle.rules.specs.Calls.{written, fitting}
 use Rattle.desk_rules.specs.Desk.{most_lines}
@@ -73,7 +74,7 @@ module _ {r : Reading} {log got : List ℕ} (k : Came r log got) where
   came_bytes = rw (k.reading, k.entries, k.arrived, came_first)
 
   -- A piece more.
-  pub came_piece : (piece : List ℕ) → Came (feed_answer r log got piece).reading (feed_log r log got piece) (feed_got r log got piece)
+  pub came_piece : (piece : List ℕ) → Came (result_unwrap_or (feed_answer r log got piece) r) (feed_log r log got piece) (feed_got r log got piece)
   unfolding feed_answer feed_log feed_got
   came_piece piece =
       let joined : fed_of (standing r log got) piece ≡ fed_of (standing start_of k.before k.got_before) (k.bytes ++ piece) =
@@ -91,7 +92,7 @@ module _ {r : Reading} {log got : List ℕ} (k : Came r log got) where
 
   -- With none, or a piece more.
   came_moved : (none : Bool) (piece : List ℕ)
-      → Came (cond none (over r) (goes_on (feed_answer r log got piece).reading)).reading (cond none log (feed_log r log got piece))
+      → Came (cond none (over r) (goes_on (result_unwrap_or (feed_answer r log got piece) r))).reading (cond none log (feed_log r log got piece))
       (cond none got (feed_got r log got piece))
   came_moved true piece = k
   came_moved false piece = came_piece piece

@@ -1,6 +1,7 @@
 -- What can be said of standard input: some bytes came, and what is written is the answer to them. Definitions only.
 -- Assumes nothing.
 use Rattle.std.specs.Prelude.{ℕ, ◌≤◌, ◌≡◌, true, false, cond, List, eqb, min, length, take, Result, Ok, Err}
+use Rattle.std.specs.Result.{result_unwrap_or}
 use Rattle.rules.specs.Kind.{kind32}
 use Rattle.desk_rules.specs.Desk.{most_lines}
 use Rattle.desk_rules.specs.Text.{desk_answer}
@@ -22,7 +23,7 @@ goes_on r = record { reading = r; more = true }
 
 -- After a read that moved n bytes to the front of a piece: with none, the input has ended.
 abbrev pub after_bytes : Reading → List ℕ → List ℕ → ℕ → List ℕ → Source
-after_bytes r log got n piece = cond (eqb n 0) (over r) (goes_on (feed_answer r log got (take n piece)).reading)
+after_bytes r log got n piece = cond (eqb n 0) (over r) (goes_on (result_unwrap_or (feed_answer r log got (take n piece)) r))
 
 -- After a read that moved so many bytes, or failed: then the reading is that of an empty input.
 unfoldable pub after_read : {E : Type 0} → Reading → List ℕ → List ℕ → Result ℕ E → List ℕ → Source
@@ -48,7 +49,7 @@ pub record Came (r : Reading) (log got : List ℕ) : Type 0 where
   pub got_before : List ℕ
   pub places : most_lines ≤ length before
   pub got_places : most_lines ≤ length got_before
-  pub reading : r ≡ (feed_answer start_of before got_before bytes).reading
+  pub reading : r ≡ result_unwrap_or (feed_answer start_of before got_before bytes) start_of
   pub entries : log ≡ feed_log start_of before got_before bytes
   pub arrived : got ≡ feed_got start_of before got_before bytes
 

@@ -56,8 +56,7 @@ fn after_read(
             more: false,
         };
     }
-    let fed = desk_reader::feed(reading, log, got, &piece[..n]);
-    let next = fed.reading;
+    let next = desk_reader::feed(reading, log, got, &piece[..n]).unwrap_or(reading);
     Source {
         reading: next,
         more: true,

@@ -1,0 +1,151 @@
+// Whole lines, one after the other.
+ghost use Rattle.std.specs.Prelude.{◌≡◌, ◌≤◌, ◌<◌, length};
+ghost use Rattle.desk_rules.specs.Desk.{most_lines};
+ghost use Rattle.desk_reader.specs.Reader.{fresh_of, started_desk, empty_desk, log_desk, got_desk, take_line, taken_log, taken_got};
+
+use crate::bytes::{Key, Line};
+use lent::refusal::Refusal;
+use modint32::Code;
+use power_sum32::power_sum::PowerSumQuackU32;
+
+// How many log lines an input may have, and how many got lines; and how many places the arrays lent for their codes have.
+pub const MOST_LINES: usize = 8192;
+
+// Which lines the input has had, or the refusal by its first bad line.
+#[derive(Clone, Copy, Debug, PartialEq, Eq)]
+pub enum Phase {
+    Unbegun,
+    Logs,
+    Gots,
+    Stopped(Refusal),
+}
+
+// What the whole lines so far have given: `sent` is the sketch of the log lines, `arrived` that of the got lines. The log's entries stand in a lent
+// array, from its front, and so do the got codes in another: there is no heap, so the caller lends the room for them, and the counts stand here.
+#[derive(Clone, Copy)]
+pub struct Desk {
+    pub phase: Phase,
+    pub entries: usize,
+    pub gots: usize,
+    pub sent: PowerSumQuackU32,
+    pub arrived: PowerSumQuackU32,
+}
+
+// The fresh sketch of a threshold. A threshold out of range is the only refusal.
+#[tactic(auto, unfolding(power_sum32::specs::Answers::new_of, rules::specs::Calls::make))]
+fn fresh(threshold: u32) -> Result<PowerSumQuackU32, Refusal>
+    ensures { result ≡ fresh_of threshold }
+{
+    let made = PowerSumQuackU32::new(threshold as usize);
+    if made.refusal == 0 {
+        Ok(made.sketch)
+    } else {
+        Err(Refusal::ThresholdOutOfRange)
+    }
+}
+
+impl Desk {
+    // A desk without sketches: before the first line, or after a refusal.
+    #[tactic(auto, unfolding(power_sum32::specs::Answers::new_of, rules::specs::Calls::make))]
+    pub(crate) fn empty(phase: Phase) -> Desk
+        ensures { result ≡ empty_desk phase }
+    {
+        let none = PowerSumQuackU32::new(0).sketch;
+        Desk {
+            phase,
+            entries: 0,
+            gots: 0,
+            sent: none,
+            arrived: none,
+        }
+    }
+
+    // After the threshold line.
+    fn begun(threshold: u32) -> Desk
+        ensures { result ≡ started_desk (fresh_of threshold) }
+    {
+        match fresh(threshold) {
+            Ok(fresh) => Desk {
+                phase: Phase::Logs,
+                entries: 0,
+                gots: 0,
+                sent: fresh,
+                arrived: fresh,
+            },
+            Err(refusal) => Desk::empty(Phase::Stopped(refusal)),
+        }
+    }
+
+    fn with_log(self, code: u32) -> Desk
+        requires { self.entries < most_lines }
+        ensures { result ≡ log_desk self code }
+    {
+        Desk {
+            phase: Phase::Logs,
+            entries: self.entries + 1,
+            sent: self.sent.insert(Code(code)).sketch,
+            ..self
+        }
+    }
+
+    fn with_got(self, code: u32) -> Desk
+        requires { self.gots < most_lines }
+        ensures { result ≡ got_desk self code }
+    {
+        Desk {
+            phase: Phase::Gots,
+            gots: self.gots + 1,
+            arrived: self.arrived.insert(Code(code)).sketch,
+            ..self
+        }
+    }
+
+    // A whole line. The first that is not allowed where it stands decides.
+    #[tactic(auto, unfolding(crate::specs::Reader::take_line, crate::specs::Reader::taken_log, crate::specs::Reader::taken_got))]
+    pub(crate) fn take_line(self, log: &mut [u32], got: &mut [u32], line: Line) -> Desk
+        requires { (most_lines ≤ length log.old) × (most_lines ≤ length got.old) }
+        ensures answer { result ≡ take_line self line }
+        ensures log { log.new ≡ taken_log self line log.old }
+        ensures got { got.new ≡ taken_got self line got.old }
+    {
+        match (self.phase, line) {
+            (Phase::Stopped(_), _) => self,
+            (
+                Phase::Unbegun,
+                Line::Value {
+                    key: Key::Threshold,
+                    value,
+                },
+            ) => Desk::begun(value),
+            (
+                Phase::Logs,
+                Line::Value {
+                    key: Key::Log,
+                    value,
+                },
+            ) => {
+                if self.entries < MOST_LINES {
+                    log[self.entries] = value;
+                    self.with_log(value)
+                } else {
+                    Desk::empty(Phase::Stopped(Refusal::TooManyLines))
+                }
+            }
+            (
+                Phase::Logs | Phase::Gots,
+                Line::Value {
+                    key: Key::Got,
+                    value,
+                },
+            ) => {
+                if self.gots < MOST_LINES {
+                    got[self.gots] = value;
+                    self.with_got(value)
+                } else {
+                    Desk::empty(Phase::Stopped(Refusal::TooManyLines))
+                }
+            }
+            _ => Desk::empty(Phase::Stopped(Refusal::BadLine)),
+        }
+    }
+}
