@@ -1,10 +1,9 @@
 -- The digits that std prints are those of the rules.
 -- Assumes nothing.
-use Rattle.std.proofs.Common.{ℕ, ◌+◌, ◌^◌, ◌≤◌, ◌<◌, ◌≡◌, List, [], ◌∷◌, ◌++◌, ℤ, pos, negsuc, refl, sym, ap, nat_abs, suc, arith, append_assoc}
+use Rattle.std.proofs.Common.{ℕ, ◌+◌, ◌^◌, ◌<◌, ◌≡◌, List, [], ◌∷◌, ℤ, pos, negsuc, ap, nat_abs, suc, arith, append_assoc}
 use Rattle.std.specs.Fmt as std
 use Rattle.std.proofs.lemmas.Fmt.{decimal_by_steps}
-use Rattle.desk_rules.specs.Lines.{LF}
-use Rattle.desk_rules.specs.Text.{decimal, minus_sign, line, signed_line}
+use Rattle.desk_rules.specs.Text.{decimal, line, signed_line}
 use Rattle.desk_rules.proofs.Text.{decimal_digit, decimal_digits}
 use Rattle.desk_text.specs.Writer.{line_of}
 

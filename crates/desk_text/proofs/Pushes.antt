@@ -1,6 +1,6 @@
 -- The writer's laws: texts one behind the other.
 -- Assumes nothing.
-use Rattle.std.proofs.Common.{ℕ, ◌+◌, ◌^◌, ◌≤◌, ◌<◌, ◌≡◌, List, [], ◌∷◌, ◌++◌, length, refl, sym, ap, ◌∙◌, arith, ℤ, pos, negsuc, ◌<ℤ◌, ◌≤ℤ◌, nat_abs}
+use Rattle.std.proofs.Common.{ℕ, ◌+◌, ◌^◌, ◌≤◌, ◌<◌, ◌≡◌, List, [], ◌++◌, length, refl, sym, ap, ◌∙◌, arith, ℤ, pos, negsuc, ◌<ℤ◌, ◌≤ℤ◌, nat_abs}
 use Rattle.std.proofs.Math.Seq.{paste}
 use Rattle.std.proofs.lemmas.List.Edits.{paste_none, paste-paste}
 use Rattle.std.proofs.lemmas.List.{length-append}
@@ -25,11 +25,11 @@ module _ {before middle : Writer} {text : List ℕ} (p : Pushed before text midd
     long = q.long ∙ p.long;
     small = p.small;
     stored = λ l.
-      let fits : before.at + length text ≤ length before.out.now = omega (arith, length-append text more) in
-      let here : middle.at ≡ before.at + length text = omega (arith, p.ends, p.small) in
-      q.stored (omega (arith, length-append text more, p.long))
-      ∙ rw (p.stored fits, here) (paste-paste before.out.now before.at text more (length text) (length more) refl refl (omega arith))
-      ∙ ap (paste before.out.now before.at (text ++ more)) (sym (length-append text more));
+        let fits : before.at + length text ≤ length before.out.now = omega (arith, length-append text more) in
+        let here : middle.at ≡ before.at + length text = omega (arith, p.ends, p.small) in
+        q.stored (omega (arith, length-append text more, p.long))
+        ∙ rw (p.stored fits, here) (paste-paste before.out.now before.at text more (length text) (length more) refl refl (omega arith))
+        ∙ ap (paste before.out.now before.at (text ++ more)) (sym (length-append text more));
   }
 
   -- The same text said another way.

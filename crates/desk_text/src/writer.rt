@@ -17,7 +17,8 @@ pub(crate) struct Report<'a> {
     pub(crate) found: &'a [u32],
 }
 
-// Where a text goes, piece by piece. Of one that is longer than the buffer all bytes are counted, so that an empty buffer measures it.
+// Where a text goes, piece by piece. Of one that is longer than the buffer all bytes are counted, so that an empty buffer measures it. An `impl Display` is
+// no way here: of what `write!` writes nothing is known where it fails, and nothing says that it does not, while `finish` promises every byte.
 #[derive(Drop)]
 struct Writer<'a> {
     out: &'a mut [u8],
@@ -76,7 +77,8 @@ impl<'a> Writer<'a> {
     }
 }
 
-// The text of an answer, at the front of a lent buffer that has room for it. It is measured first, so that a buffer that is too short stays as it was.
+// The text of an answer, at the front of a lent buffer that has room for it. There is no heap for the text, and a buffer that is too short stays as it was:
+// so the text is measured first.
 pub(crate) fn write(out: &mut [u8], answer: Result<Report, Refusal>) -> Result<usize, Refusal>
     ensures answer { result ≡ listed (fitting (printed (told answer.entry)) (length out.old)) }
     ensures text { out.new ≡ written (fitting (printed (told answer.entry)) (length out.old)) out.old }

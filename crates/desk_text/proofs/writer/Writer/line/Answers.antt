@@ -1,6 +1,6 @@
 -- The word, the digits and LF, one behind the other.
-use Rattle.std.proofs.Common.{rules, sym}
-use Rattle.desk_text.proofs.Pushes.{pushed_then, pushed_as}
+use Rattle.std.proofs.Common.{sym}
+use Rattle.desk_text.proofs.Pushes.{pushed_then}
 use Rattle.desk_text.proofs.writer.Writer.line.Goals as goal
 
 pub returns : goal.returns

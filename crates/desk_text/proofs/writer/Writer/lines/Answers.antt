@@ -1,5 +1,5 @@
 -- After each number, the lines so far are pushed.
-use Rattle.std.proofs.Common.{rules, sym, arith, take}
+use Rattle.std.proofs.Common.{rules, sym, arith}
 use Rattle.desk_rules.specs.Text.{lines}
 use Rattle.desk_rules.proofs.Text.{lines_more}
 use Rattle.desk_text.proofs.Digits.{line_printed}

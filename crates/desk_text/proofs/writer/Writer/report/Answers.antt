@@ -1,5 +1,5 @@
 -- The parts of the text, one behind the other.
-use Rattle.std.proofs.Common.{sym, rules, arith, ap}
+use Rattle.std.proofs.Common.{sym, rules, ap}
 use Rattle.std.specs.Fmt as std
 use Rattle.desk_rules.specs.Text.{count_word, lines}
 use Rattle.desk_text.specs.Writer.{Pushed, line_of}
