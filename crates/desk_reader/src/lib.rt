@@ -31,7 +31,7 @@ fn take_bytes(r: Reading, log: &mut [u32], got: &mut [u32], piece: &[u8]) -> Rea
             desk = desk.take_line(log, got, line);
             line = Line::Fresh;
         } else {
-            line = line.and(*b);
+            line = line.followed_by(*b);
         }
     }
     Reading { desk, line }

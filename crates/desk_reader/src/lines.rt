@@ -31,7 +31,7 @@ pub struct Desk {
     pub arrived: PowerSumQuackU32,
 }
 
-// The fresh sketch of a threshold. A threshold out of range is the only refusal.
+// The fresh sketch of a threshold, by the number that `new` answers: a threshold out of range is its only refusal.
 #[tactic(auto, unfolding(power_sum32::specs::Answers::new_of, rules::specs::Calls::make))]
 fn fresh(threshold: u32) -> Result<PowerSumQuackU32, Refusal>
     ensures { result ≡ fresh_of threshold }
@@ -61,7 +61,7 @@ impl Desk {
     }
 
     // After the threshold line.
-    fn begun(threshold: u32) -> Desk
+    fn started(threshold: u32) -> Desk
         ensures { result ≡ started_desk (fresh_of threshold) }
     {
         match fresh(threshold) {
@@ -116,7 +116,7 @@ impl Desk {
                     key: Key::Threshold,
                     value,
                 },
-            ) => Desk::begun(value),
+            ) => Desk::started(value),
             (
                 Phase::Logs,
                 Line::Value {
