@@ -1,7 +1,7 @@
 // Whole lines, one after the other.
 ghost use Rattle.std.specs.Prelude.{◌≡◌, ◌≤◌, ◌<◌, length};
 ghost use Rattle.desk_rules.specs.Desk.{most_lines};
-ghost use Rattle.desk_reader.specs.Reader.{fresh_of, started_desk, empty_desk, log_desk, got_desk, take_line, taken_log, taken_got};
+ghost use Rattle.desk_reader.specs.Reader.{fresh_of, started_desk, empty_desk, bad_line, log_desk, got_desk, take_line, taken_log, taken_got};
 
 use crate::bytes::{Key, Line};
 use lent::refusal::Refusal;
@@ -100,7 +100,17 @@ impl Desk {
         }
     }
 
-    // A whole line. The first that is not allowed where it stands decides.
+    // After a line that is not allowed where it stands. The first one has decided.
+    fn after_bad_line(self) -> Desk
+        ensures { result ≡ bad_line self }
+    {
+        match self.phase {
+            Phase::Stopped(_) => self,
+            _ => Desk::empty(Phase::Stopped(Refusal::BadLine)),
+        }
+    }
+
+    // After a whole line.
     #[tactic(auto, unfolding(crate::specs::Reader::take_line, crate::specs::Reader::taken_log, crate::specs::Reader::taken_got))]
     pub(crate) fn take_line(self, log: &mut [u32], got: &mut [u32], line: Line) -> Desk
         requires { (most_lines ≤ length log.old) × (most_lines ≤ length got.old) }
@@ -108,44 +118,23 @@ impl Desk {
         ensures log { log.new ≡ taken_log self line log.old }
         ensures got { got.new ≡ taken_got self line got.old }
     {
-        match (self.phase, line) {
-            (Phase::Stopped(_), _) => self,
-            (
-                Phase::Unbegun,
-                Line::Value {
-                    key: Key::Threshold,
-                    value,
-                },
-            ) => Desk::started(value),
-            (
-                Phase::Logs,
-                Line::Value {
-                    key: Key::Log,
-                    value,
-                },
-            ) => {
-                if self.entries < MOST_LINES {
-                    log[self.entries] = value;
-                    self.with_log(value)
-                } else {
-                    Desk::empty(Phase::Stopped(Refusal::TooManyLines))
-                }
+        let Line::Value { key, value } = line else {
+            return self.after_bad_line();
+        };
+        match (self.phase, key) {
+            (Phase::Unbegun, Key::Threshold) => Desk::started(value),
+            (Phase::Logs, Key::Log) if self.entries < MOST_LINES => {
+                log[self.entries] = value;
+                self.with_log(value)
             }
-            (
-                Phase::Logs | Phase::Gots,
-                Line::Value {
-                    key: Key::Got,
-                    value,
-                },
-            ) => {
-                if self.gots < MOST_LINES {
-                    got[self.gots] = value;
-                    self.with_got(value)
-                } else {
-                    Desk::empty(Phase::Stopped(Refusal::TooManyLines))
-                }
+            (Phase::Logs | Phase::Gots, Key::Got) if self.gots < MOST_LINES => {
+                got[self.gots] = value;
+                self.with_got(value)
             }
-            _ => Desk::empty(Phase::Stopped(Refusal::BadLine)),
+            (Phase::Logs, Key::Log) | (Phase::Logs | Phase::Gots, Key::Got) => {
+                Desk::empty(Phase::Stopped(Refusal::TooManyLines))
+            }
+            _ => self.after_bad_line(),
         }
     }
 }
