@@ -22,6 +22,7 @@ pub enum Phase {
 
 // What the whole lines so far have given: `sent` is the sketch of the log lines, `arrived` that of the got lines. The log's entries stand in a lent
 // array, from its front, and so do the got codes in another: there is no heap, so the caller lends the room for them, and the counts stand here.
+// The counts and sketches stand in every phase, since the end of an input is refused for counts that claim too much in any of them.
 #[derive(Clone, Copy)]
 pub struct Desk {
     pub phase: Phase,
