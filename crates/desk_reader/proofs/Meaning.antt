@@ -1,6 +1,6 @@
 -- The reader stands where the rules stand, whatever the pieces.
 -- Assumes nothing.
-use Prim.Native.Nat.{ℕ, suc, ◌≤◌, ◌<◌, zero-le}
+use Prim.Native.Nat.{ℕ, ◌≤◌, ◌<◌, zero-le}
 use mathlib.Core.Path.{◌≡◌, refl, ap, sym, ◌∙◌}
 use mathlib.Core.Bool.{Bool, true, false, cond}
 use mathlib.Core.List.{List, [], ◌∷◌, ◌++◌, foldl, foldl-append}
@@ -230,14 +230,7 @@ tied_byte : (s : State) (w : Standing) (b : ℕ) (ends : Bool) → Tied s w
     (cond ends (line_taken w) (byte_taken w b))
 tied_byte s w b true h =
     let says : said w.reading.line ≡ parsed kind32 s.begun = ap said h.line ∙ led_says s.begun in
-    let same : Holds s.seen (desk_of s.seen) w.log w.got = record {
-      desk = refl;
-      entries = h.lines.entries;
-      arrived = h.lines.arrived;
-      few = h.lines.few;
-      few_gots = h.lines.few_gots;
-      ranged = h.lines.ranged;
-    } in
+    let same = rw h.lines.desk at h.lines in
     record {
       lines = rw (h.lines.desk, ← says) (takes s.seen w.reading.line w.log w.got same h.room h.got_room);
       line = refl;
