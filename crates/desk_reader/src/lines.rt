@@ -1,6 +1,7 @@
 // Whole lines, one after the other.
 ghost use Rattle.std.specs.Prelude.{◌≡◌, ◌≤◌, ◌<◌, length};
 ghost use Rattle.desk_rules.specs.Desk.{most_lines};
+ghost use Rattle.desk_reader.specs.declared.lines.Phase.TheVariants.{Stopped};
 ghost use Rattle.desk_reader.specs.Reader.{fresh_of, started_desk, empty_desk, bad_line, log_desk, got_desk, take_line, taken_log, taken_got};
 
 use crate::bytes::{Key, Line};
@@ -61,6 +62,13 @@ impl Desk {
         }
     }
 
+    // After the line that is refused.
+    fn stopped(refusal: Refusal) -> Desk
+        ensures { result ≡ empty_desk (Stopped refusal) }
+    {
+        Desk::empty(Phase::Stopped(refusal))
+    }
+
     // After the threshold line.
     fn started(threshold: u32) -> Desk
         ensures { result ≡ started_desk (fresh_of threshold) }
@@ -73,7 +81,7 @@ impl Desk {
                 sent: fresh,
                 arrived: fresh,
             },
-            Err(refusal) => Desk::empty(Phase::Stopped(refusal)),
+            Err(refusal) => Desk::stopped(refusal),
         }
     }
 
@@ -107,7 +115,7 @@ impl Desk {
     {
         match self.phase {
             Phase::Stopped(_) => self,
-            _ => Desk::empty(Phase::Stopped(Refusal::BadLine)),
+            _ => Desk::stopped(Refusal::BadLine),
         }
     }
 
@@ -133,7 +141,7 @@ impl Desk {
                 self.with_got(value)
             }
             (Phase::Logs, Key::Log) | (Phase::Logs | Phase::Gots, Key::Got) => {
-                Desk::empty(Phase::Stopped(Refusal::TooManyLines))
+                Desk::stopped(Refusal::TooManyLines)
             }
             _ => self.after_bad_line(),
         }
