@@ -27,8 +27,9 @@ fn in_pieces(input: &[u8], expected: &[u8], size: usize) -> bool
     let mut at: usize = 0;
     while at < input.len() {
         let end = at + lent::smaller(size, input.len() - at);
-        reading =
-            desk_reader::feed(reading, &mut log, &mut got, &input[at..end]).unwrap_or(reading);
+        reading = desk_reader::feed(reading, &mut log, &mut got, &input[at..end]).unwrap_or(
+            reading,
+        );
         at = end;
     }
     let mut out = buffer();

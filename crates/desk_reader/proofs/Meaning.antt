@@ -1,14 +1,15 @@
 -- The reader stands where the rules stand, whatever the pieces.
 -- Assumes nothing.
-use Prim.Native.Nat.{ℕ, suc, ◌≤◌, ◌<◌, zero-le}
+use Prim.Native.Nat.{ℕ, ◌≤◌, ◌<◌, zero-le}
 use mathlib.Core.Path.{◌≡◌, refl, ap, sym, ◌∙◌}
 use mathlib.Core.Bool.{Bool, true, false, cond}
 use mathlib.Core.List.{List, [], ◌∷◌, ◌++◌, foldl, foldl-append}
 use native.Mathlib.Numerals.{add-one}
 use native.Mathlib.Omega.{arith}
 use lib.Dec.{eqb, ltb}
-use lib.ListN.{length, take, set, length-append}
+use lib.ListN.{length, take, set}
 use lib.Seq.{take-suc-set}
+use Rattle.std.proofs.lemmas.List.{length_push}
 use borrow.Author.Tests.{ltb-true, le-leb}
 use Rattle.rules.specs.Kind.{kind32}
 use Rattle.rules.specs.Sketch as sketch
@@ -151,9 +152,7 @@ holds_started T log got false e = holds_stopped 1 log got refl
 -- One more stored behind the first of a list.
 one_stored : (c : ℕ) (l list : List ℕ) → take (length l) list ≡ l → length l < length list
     → take (length (l ++ (c ∷ []))) (set list (length l) c) ≡ l ++ (c ∷ [])
-one_stored c l list front within =
-    let one_more : length (l ++ (c ∷ [])) ≡ suc (length l) = rw length-append (omega arith) in
-    rw (one_more, take-suc-set list (length l) c within, front)
+one_stored c l list front within = rw (length_push l c, add-one, take-suc-set list (length l) c within, front)
 
 -- One code more, where the lists' first places hold the entries and the got codes so far.
 module _ (T c : ℕ) (l log got : List ℕ) (front : take (length l) log ≡ l) (few : length l ≤ most_lines) (range : InRange T) where
@@ -163,13 +162,12 @@ module _ (T c : ℕ) (l log got : List ℕ) (front : take (length l) log ≡ l) 
       (cond room (set log (length l) c) log) got
   holds_logged true e places =
       let more = ltb-true (length l) most_lines e in
-      let one_more : length (l ++ (c ∷ [])) ≡ suc (length l) = rw length-append (omega arith) in
       let within : length l < length log = omega arith in
       record {
-        desk = rw (insert_more T l c range, one_more, add-one);
+        desk = rw (insert_more T l c range, length_push l c);
         entries = one_stored c l log front within;
         arrived = refl;
-        few = omega arith;
+        few = omega (arith, length_push l c);
         few_gots = zero-le;
         ranged = range;
       }
@@ -181,14 +179,13 @@ module _ (T c : ℕ) (l log got : List ℕ) (front : take (length l) log ≡ l) 
       (cond room (set got (length g) c) got)
   holds_got g got_front true e places =
       let more = ltb-true (length g) most_lines e in
-      let one_more : length (g ++ (c ∷ [])) ≡ suc (length g) = rw length-append (omega arith) in
       let within : length g < length got = omega arith in
       record {
-        desk = rw (insert_more T g c range, one_more, add-one);
+        desk = rw (insert_more T g c range, length_push g c);
         entries = front;
         arrived = one_stored c g got got_front within;
         few = few;
-        few_gots = omega arith;
+        few_gots = omega (arith, length_push g c);
         ranged = range;
       }
   holds_got g got_front false e places = holds_stopped 10 log got refl
@@ -233,14 +230,7 @@ tied_byte : (s : State) (w : Standing) (b : ℕ) (ends : Bool) → Tied s w
     (cond ends (line_taken w) (byte_taken w b))
 tied_byte s w b true h =
     let says : said w.reading.line ≡ parsed kind32 s.begun = ap said h.line ∙ led_says s.begun in
-    let same : Holds s.seen (desk_of s.seen) w.log w.got = record {
-      desk = refl;
-      entries = h.lines.entries;
-      arrived = h.lines.arrived;
-      few = h.lines.few;
-      few_gots = h.lines.few_gots;
-      ranged = h.lines.ranged;
-    } in
+    let same = rw h.lines.desk at h.lines in
     record {
       lines = rw (h.lines.desk, ← says) (takes s.seen w.reading.line w.log w.got same h.room h.got_room);
       line = refl;

@@ -1,4 +1,4 @@
--- The reader's laws: what a whole line does to the lent lists, and what the loop over a piece keeps.
+-- A whole line leaves the lent lists as long as they were.
 -- Assumes nothing.
 use Prim.Native.Nat.{ℕ}
 use mathlib.Core.Path.{◌≡◌, refl}
@@ -20,26 +20,19 @@ kept_length : (room : Bool) (n c : ℕ) (list : List ℕ) → length (cond room 
 kept_length true n c list = length-set list n c
 kept_length false n c list = refl
 
--- Storing a log code leaves the log as long as it was.
-stored_length : (p : Phase) (room : Bool) (n c : ℕ) (log : List ℕ) → length (by_phase p log (cond room (set log n c) log) log log) ≡ length log
-stored_length Unbegun room n c log = refl
-stored_length Logs room n c log = kept_length room n c log
-stored_length Gots room n c log = refl
-stored_length (Stopped r) room n c log = refl
-
--- Storing a got code leaves the got codes' list as long as it was.
-stored_got_length : (p : Phase) (room : Bool) (n c : ℕ) (got : List ℕ)
-    → length (by_phase p got (cond room (set got n c) got) (cond room (set got n c) got) got) ≡ length got
-stored_got_length Unbegun room n c got = refl
-stored_got_length Logs room n c got = kept_length room n c got
-stored_got_length Gots room n c got = kept_length room n c got
-stored_got_length (Stopped r) room n c got = refl
+-- So does any choice by the phase between a list and those as long as it.
+phase_length : (p : Phase) (list logs gots : List ℕ) → length logs ≡ length list → length gots ≡ length list
+    → length (by_phase p list logs gots list) ≡ length list
+phase_length Unbegun list logs gots e f = refl
+phase_length Logs list logs gots e f = e
+phase_length Gots list logs gots e f = f
+phase_length (Stopped r) list logs gots e f = refl
 
 -- A whole line leaves the lent log as long as it was.
 pub taken_length : (d : Desk) (l : Line) (log : List ℕ) → length (taken_log d l log) ≡ length log
 unfolding taken_log
 taken_length d (Value Threshold v) log = refl
-taken_length d (Value Log v) log = stored_length d.phase (ltb d.entries most_lines) d.entries v log
+taken_length d (Value Log v) log = phase_length d.phase log _ _ (kept_length (ltb d.entries most_lines) d.entries v log) refl
 taken_length d (Value Got v) log = refl
 taken_length d Fresh log = refl
 taken_length d (Word k at) log = refl
@@ -50,7 +43,7 @@ pub taken_got_length : (d : Desk) (l : Line) (got : List ℕ) → length (taken_
 unfolding taken_got
 taken_got_length d (Value Threshold v) got = refl
 taken_got_length d (Value Log v) got = refl
-taken_got_length d (Value Got v) got = stored_got_length d.phase (ltb d.gots most_lines) d.gots v got
+taken_got_length d (Value Got v) got = let kept = kept_length (ltb d.gots most_lines) d.gots v got in phase_length d.phase got _ _ kept kept
 taken_got_length d Fresh got = refl
 taken_got_length d (Word k at) got = refl
 taken_got_length d Bad got = refl

@@ -13,7 +13,7 @@ pub record Calls : Type 1 where
   pub feeds : Reading → List ℕ → List ℕ → List ℕ → Result Reading Refusal → List ℕ → List ℕ → Type 0
 
 -- A reading and the lists that it is lent, got by calls from these bytes: `start`, with a log and got codes that have a place for each line that may come, and
--- then `feed` for each piece.
+-- then `feed` for each piece, where a refused call leaves the reading as it was.
 pub data Read (C : Calls) : List ℕ → Reading → List ℕ → List ℕ → Type 0 where
   begun : {r : Reading} (log got : List ℕ) → most_lines ≤ length log → most_lines ≤ length got → C.starts r → Read C [] r log got
   further : {bs : List ℕ} {r : Reading} {z : Result Reading Refusal} (log got piece log' got' : List ℕ) → Read C bs r log got → C.feeds r log got piece z log' got'

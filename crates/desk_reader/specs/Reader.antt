@@ -90,7 +90,7 @@ coded c = record { 0 = c }
 abbrev pub log_desk : Desk → ℕ → Desk
 log_desk d c = record { phase = Logs; entries = d.entries + 1; gots = d.gots; sent = (insert_of d.sent (coded c)).sketch; arrived = d.arrived }
 
--- A log line: allowed before the got lines, and one too many beyond as many as there may be.
+-- A log line: allowed before the got lines, and refused where there are as many as there may be already.
 abbrev pub log_line : Desk → ℕ → Desk
 log_line d c = by_phase d.phase (bad_line d) (cond (ltb d.entries most_lines) (log_desk d c) (empty_desk (Stopped TooManyLines))) (bad_line d) (bad_line d)
 
@@ -102,7 +102,7 @@ stored_log d c log = by_phase d.phase log (cond (ltb d.entries most_lines) (set 
 abbrev pub got_desk : Desk → ℕ → Desk
 got_desk d c = record { phase = Gots; entries = d.entries; gots = d.gots + 1; sent = d.sent; arrived = (insert_of d.arrived (coded c)).sketch }
 
--- A got code where got lines are allowed: one too many beyond as many as there may be.
+-- A got code where got lines are allowed: refused where there are as many as there may be already.
 abbrev pub kept_desk : Desk → ℕ → Desk
 kept_desk d c = cond (ltb d.gots most_lines) (got_desk d c) (empty_desk (Stopped TooManyLines))
 
@@ -189,7 +189,7 @@ start_of = reading (empty_desk Unbegun) Fresh
 abbrev pub enough_places : List ℕ → List ℕ → Bool
 enough_places log got = leb most_lines (length log) && leb most_lines (length got)
 
--- No room where the log or the got codes have fewer places than there may be lines of each; both stay then.
+-- Refused for want of room where the log or the got codes have fewer places than there may be lines of each; both stay then, and the reading is the caller's.
 unfoldable pub feed_answer : Reading → List ℕ → List ℕ → List ℕ → Result Reading Refusal
 feed_answer r log got piece = cond (enough_places log got) (Ok (fed_of (standing r log got) piece).reading) (Err NoRoom)
 

@@ -78,9 +78,9 @@ fn next_digit(key: Key, value: u32, b: u8) -> Line
 }
 
 impl Line {
-    // One byte more, not the line's LF.
+    // The line with one byte more, which is not its LF.
     #[tactic(auto, unfolding(crate::specs::Reader::line_byte, crate::specs::Reader::word_byte))]
-    pub(crate) fn and(self, b: u8) -> Line
+    pub(crate) fn followed_by(self, b: u8) -> Line
         ensures { result ≡ line_byte self b }
     {
         match self {

@@ -1,7 +1,8 @@
 // Whole lines, one after the other.
 ghost use Rattle.std.specs.Prelude.{◌≡◌, ◌≤◌, ◌<◌, length};
 ghost use Rattle.desk_rules.specs.Desk.{most_lines};
-ghost use Rattle.desk_reader.specs.Reader.{fresh_of, started_desk, empty_desk, log_desk, got_desk, take_line, taken_log, taken_got};
+ghost use Rattle.desk_reader.specs.declared.lines.Phase.TheVariants.{Stopped};
+ghost use Rattle.desk_reader.specs.Reader.{fresh_of, started_desk, empty_desk, bad_line, log_desk, got_desk, take_line, taken_log, taken_got};
 
 use crate::bytes::{Key, Line};
 use lent::refusal::Refusal;
@@ -22,6 +23,7 @@ pub enum Phase {
 
 // What the whole lines so far have given: `sent` is the sketch of the log lines, `arrived` that of the got lines. The log's entries stand in a lent
 // array, from its front, and so do the got codes in another: there is no heap, so the caller lends the room for them, and the counts stand here.
+// The counts and sketches stand in every phase, since the end of an input is refused for counts that claim too much in any of them.
 #[derive(Clone, Copy)]
 pub struct Desk {
     pub phase: Phase,
@@ -31,7 +33,7 @@ pub struct Desk {
     pub arrived: PowerSumQuackU32,
 }
 
-// The fresh sketch of a threshold. A threshold out of range is the only refusal.
+// The fresh sketch of a threshold, by the number that `new` answers: a threshold out of range is its only refusal.
 #[tactic(auto, unfolding(power_sum32::specs::Answers::new_of, rules::specs::Calls::make))]
 fn fresh(threshold: u32) -> Result<PowerSumQuackU32, Refusal>
     ensures { result ≡ fresh_of threshold }
@@ -60,8 +62,15 @@ impl Desk {
         }
     }
 
+    // After the line that is refused.
+    fn stopped(refusal: Refusal) -> Desk
+        ensures { result ≡ empty_desk (Stopped refusal) }
+    {
+        Desk::empty(Phase::Stopped(refusal))
+    }
+
     // After the threshold line.
-    fn begun(threshold: u32) -> Desk
+    fn started(threshold: u32) -> Desk
         ensures { result ≡ started_desk (fresh_of threshold) }
     {
         match fresh(threshold) {
@@ -72,7 +81,7 @@ impl Desk {
                 sent: fresh,
                 arrived: fresh,
             },
-            Err(refusal) => Desk::empty(Phase::Stopped(refusal)),
+            Err(refusal) => Desk::stopped(refusal),
         }
     }
 
@@ -100,7 +109,17 @@ impl Desk {
         }
     }
 
-    // A whole line. The first that is not allowed where it stands decides.
+    // After a line that is not allowed where it stands. The first one has decided.
+    fn after_bad_line(self) -> Desk
+        ensures { result ≡ bad_line self }
+    {
+        match self.phase {
+            Phase::Stopped(_) => self,
+            _ => Desk::stopped(Refusal::BadLine),
+        }
+    }
+
+    // After a whole line.
     #[tactic(auto, unfolding(crate::specs::Reader::take_line, crate::specs::Reader::taken_log, crate::specs::Reader::taken_got))]
     pub(crate) fn take_line(self, log: &mut [u32], got: &mut [u32], line: Line) -> Desk
         requires { (most_lines ≤ length log.old) × (most_lines ≤ length got.old) }
@@ -108,44 +127,23 @@ impl Desk {
         ensures log { log.new ≡ taken_log self line log.old }
         ensures got { got.new ≡ taken_got self line got.old }
     {
-        match (self.phase, line) {
-            (Phase::Stopped(_), _) => self,
-            (
-                Phase::Unbegun,
-                Line::Value {
-                    key: Key::Threshold,
-                    value,
-                },
-            ) => Desk::begun(value),
-            (
-                Phase::Logs,
-                Line::Value {
-                    key: Key::Log,
-                    value,
-                },
-            ) => {
-                if self.entries < MOST_LINES {
-                    log[self.entries] = value;
-                    self.with_log(value)
-                } else {
-                    Desk::empty(Phase::Stopped(Refusal::TooManyLines))
-                }
+        let Line::Value { key, value } = line else {
+            return self.after_bad_line();
+        };
+        match (self.phase, key) {
+            (Phase::Unbegun, Key::Threshold) => Desk::started(value),
+            (Phase::Logs, Key::Log) if self.entries < MOST_LINES => {
+                log[self.entries] = value;
+                self.with_log(value)
             }
-            (
-                Phase::Logs | Phase::Gots,
-                Line::Value {
-                    key: Key::Got,
-                    value,
-                },
-            ) => {
-                if self.gots < MOST_LINES {
-                    got[self.gots] = value;
-                    self.with_got(value)
-                } else {
-                    Desk::empty(Phase::Stopped(Refusal::TooManyLines))
-                }
+            (Phase::Logs | Phase::Gots, Key::Got) if self.gots < MOST_LINES => {
+                got[self.gots] = value;
+                self.with_got(value)
             }
-            _ => Desk::empty(Phase::Stopped(Refusal::BadLine)),
+            (Phase::Logs, Key::Log) | (Phase::Logs | Phase::Gots, Key::Got) => {
+                Desk::stopped(Refusal::TooManyLines)
+            }
+            _ => self.after_bad_line(),
         }
     }
 }
