@@ -18,12 +18,12 @@ where
     Some(narrowed)
 }
 
-// The word of a number's lowest bits.
+// The word of a number's lowest bits. The further bits are cut off, which no `TryFrom` does.
 pub(crate) fn low_word(number: u32) -> Word {
     (number & (Word::MAX as u32)) as Word
 }
 
-// The byte of a number's lowest bits.
+// The byte of a number's lowest bits, likewise.
 pub(crate) fn low_byte(number: u32) -> u8 {
     (number & 0xff) as u8
 }

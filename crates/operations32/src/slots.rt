@@ -6,7 +6,8 @@ use modint32::Word;
 // The most words of a slot.
 pub const LONGEST: usize = 40;
 
-// The first `length` of these words, or all of them where there are not so many.
+// The first `length` of these words, or all of them where there are not so many: `run` takes any slots, so no length is ruled out. An array,
+// and not an `ArrayVec`, since an operation works on copies of its slots.
 #[derive(Clone, Copy, Default)]
 pub struct Slot {
     pub length: usize,
@@ -30,6 +31,7 @@ impl Slot {
     }
 }
 
+// The slots that the arguments of an operation name.
 #[derive(Clone, Copy, Default)]
 pub struct Slots(pub [Slot; 3]);
 

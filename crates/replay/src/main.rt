@@ -9,7 +9,8 @@ use reading::Reading;
 use std::io;
 use std::io::Read;
 
-// A proved loop has to end, and nothing says that the input does: the turns are counted to a number that no run reaches.
+// A proved loop has to end, and nothing says that the input does: the turns are counted to a number that no run reaches. The pieces read stand in
+// fixed memory, which a buffered reader does not.
 fn read_all(input: &mut impl Read) -> io::Result<Reading> {
     let mut reading = Reading::default();
     let mut buffer = [0u8; 65536];

@@ -2,7 +2,7 @@
 use crate::line::Slots;
 use arrayvec::ArrayVec;
 
-// A line so far: its whole numbers, the number that is being read, and whether the line is none of the list.
+// A line so far: its whole numbers, the number that is being read, and whether the line is none of the list, which is known before it ends.
 #[derive(Default, PartialEq, Drop)]
 struct Line {
     numbers: ArrayVec<u32, 512>,
