@@ -1,7 +1,7 @@
 // The operations of a recorded list, run on the calls of `exports16` and compared with the answers recorded.
 #![tactic(auto)]
 
-mod agree;
+mod answer;
 mod field;
 pub mod operation;
 mod sketch;

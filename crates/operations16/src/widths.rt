@@ -1,67 +1,29 @@
-// Numbers of one width taken to another.
+// Numbers of the list taken to words and bytes.
+use arrayvec::ArrayVec;
 use modint16::Word;
 
-// How many numbers a word can hold.
-const WORDS: u64 = 65536;
+// The most words or bytes that a line lends a call.
+pub(crate) const MOST: usize = 512;
 
-pub(crate) fn size(number: u32) -> usize {
-    number as usize
+// Numbers as words or bytes. There are none where a number is too large to be one, or where there are more than a line lends.
+pub(crate) fn narrowed<T>(numbers: &[u32]) -> Option<ArrayVec<T, MOST>>
+where
+    T: TryFrom<u32> + Default + Drop,
+    T::Error: Drop,
+{
+    let mut narrowed = ArrayVec::new();
+    for number in numbers {
+        narrowed.try_push(T::try_from(*number).ok()?).ok()?;
+    }
+    Some(narrowed)
 }
 
-pub(crate) fn number(word: Word) -> u32 {
-    word as u32
-}
-
-pub(crate) fn number_of_byte(byte: u8) -> u32 {
-    byte as u32
-}
-
-pub(crate) fn is_word(number: u32) -> bool {
-    (number as u64) < WORDS
-}
-
+// The word of a number's lowest bits. The further bits are cut off, which no `TryFrom` does.
 pub(crate) fn low_word(number: u32) -> Word {
-    ((number as u64) % WORDS) as Word
+    (number & (Word::MAX as u32)) as Word
 }
 
-fn put_word(words: &mut [Word], k: usize, number: u32) -> bool {
-    if k >= words.len() {
-        return false;
-    }
-    words[k] = low_word(number);
-    is_word(number)
-}
-
-// Puts numbers into words. Answers whether each is a word and all have room.
-pub(crate) fn put_words(numbers: &[u32], words: &mut [Word]) -> bool {
-    let mut fits = true;
-    for k in 0..numbers.len() {
-        if !put_word(&mut *words, k, numbers[k]) {
-            fits = false;
-        }
-    }
-    fits
-}
-
+// The byte of a number's lowest bits, likewise.
 pub(crate) fn low_byte(number: u32) -> u8 {
-    (number % 256) as u8
-}
-
-fn put_byte(bytes: &mut [u8], k: usize, number: u32) -> bool {
-    if k >= bytes.len() {
-        return false;
-    }
-    bytes[k] = low_byte(number);
-    number < 256
-}
-
-// Puts numbers into bytes. Answers whether each is a byte and all have room.
-pub(crate) fn put_bytes(numbers: &[u32], bytes: &mut [u8]) -> bool {
-    let mut fits = true;
-    for k in 0..numbers.len() {
-        if !put_byte(&mut *bytes, k, numbers[k]) {
-            fits = false;
-        }
-    }
-    fits
+    (number & 0xff) as u8
 }

@@ -1,87 +1,80 @@
-// The operations on codes and on the value of a polynomial: kinds 9 and 14 to 21.
-use crate::{agree, widths};
+// The operations on codes and on the value of a polynomial.
+use crate::answer;
+use crate::answer::Answer;
+use crate::widths::{low_word, narrowed};
 use exports32::{evaluator, modint};
 use modint32::Word;
 use polynomial32::evaluator::Evaluated;
 
-// The value of coefficients at a code.
-fn valued(kind: u32, coeffs: &[Word], x: Word) -> Evaluated {
-    match kind {
-        _ => evaluator::eddy32_eval(coeffs, x),
-    }
+// The value of coefficients, which stand behind the code, by a call.
+fn evaluated<F: FnOnce(&[Word], Word) -> Evaluated>(args: &[u32], call: F) -> Option<Answer>
+    requires { F.IsAlwaysCallable call }
+{
+    let [x, coeffs @ ..] = args else {
+        return None;
+    };
+    let coeffs = narrowed(coeffs)?;
+    let found = call(coeffs.as_slice(), low_word(*x));
+    answer::numbers(&[found.refusal, found.value.value().into()])
 }
 
-fn eval(kind: u32, args: &[u32], expected: &[u32]) -> bool {
-    if args.len() == 0 {
-        return false;
-    }
-    let length = args.len() - 1;
-    if length > 512 {
-        return false;
-    }
-    let mut coeffs: [Word; 512] = [0; 512];
-    if !widths::put_words(&args[1..], &mut coeffs) {
-        return false;
-    }
-    let answer = valued(kind, &coeffs[0..length], widths::low_word(args[0]));
-    let value = answer.value;
-    agree::two(answer.refusal, widths::number(value.value()), expected)
+// A call on one code.
+fn of_one<F: FnOnce(Word) -> u32>(args: &[u32], call: F) -> Option<Answer>
+    requires { F.IsAlwaysCallable call }
+{
+    let [a] = args else {
+        return None;
+    };
+    answer::numbers(&[call(low_word(*a))])
 }
 
-fn of_one(kind: u32, a: Word) -> u32 {
-    match kind {
-        14 => modint::eddy32_field_reduce(a),
-        18 => modint::eddy32_field_neg(a),
-        19 => modint::eddy32_field_inv(a),
-        _ => modint::eddy32_field_pow_multiplications(a),
-    }
+// A call on two codes.
+fn of_two<F: FnOnce(Word, Word) -> u32>(args: &[u32], call: F) -> Option<Answer>
+    requires { F.IsAlwaysCallable call }
+{
+    let [a, b] = args else {
+        return None;
+    };
+    answer::numbers(&[call(low_word(*a), low_word(*b))])
 }
 
-fn of_two(kind: u32, a: Word, b: Word) -> u32 {
-    match kind {
-        15 => modint::eddy32_field_add(a, b),
-        16 => modint::eddy32_field_sub(a, b),
-        _ => modint::eddy32_field_mul(a, b),
-    }
+pub(crate) fn eval(args: &[u32]) -> Option<Answer> {
+    evaluated(args, evaluator::eddy32_eval)
 }
 
-fn one(kind: u32, args: &[u32], expected: &[u32]) -> bool {
-    if args.len() != 1 {
-        return false;
-    }
-    agree::one(of_one(kind, widths::low_word(args[0])), expected)
+pub(crate) fn reduce(args: &[u32]) -> Option<Answer> {
+    of_one(args, modint::eddy32_field_reduce)
 }
 
-fn two(kind: u32, args: &[u32], expected: &[u32]) -> bool {
-    if args.len() != 2 {
-        return false;
-    }
-    let a = widths::low_word(args[0]);
-    let b = widths::low_word(args[1]);
-    agree::one(of_two(kind, a, b), expected)
+pub(crate) fn neg(args: &[u32]) -> Option<Answer> {
+    of_one(args, modint::eddy32_field_neg)
 }
 
-fn pow(args: &[u32], expected: &[u32]) -> bool {
-    if args.len() != 2 {
-        return false;
-    }
-    let a = widths::low_word(args[0]);
-    let e = widths::low_word(args[1]);
-    let power = modint::eddy32_field_pow(a, e);
-    let value = power.value;
-    agree::two(
-        widths::number(value.value()),
-        power.multiplications,
-        expected,
-    )
+pub(crate) fn inv(args: &[u32]) -> Option<Answer> {
+    of_one(args, modint::eddy32_field_inv)
 }
 
-pub(crate) fn run(kind: u32, args: &[u32], expected: &[u32]) -> bool {
-    match kind {
-        9 => eval(kind, args, expected),
-        14 | 18 | 19 | 21 => one(kind, args, expected),
-        15 | 16 | 17 => two(kind, args, expected),
-        20 => pow(args, expected),
-        _ => false,
-    }
+pub(crate) fn pow_multiplications(args: &[u32]) -> Option<Answer> {
+    of_one(args, modint::eddy32_field_pow_multiplications)
+}
+
+pub(crate) fn add(args: &[u32]) -> Option<Answer> {
+    of_two(args, modint::eddy32_field_add)
+}
+
+pub(crate) fn sub(args: &[u32]) -> Option<Answer> {
+    of_two(args, modint::eddy32_field_sub)
+}
+
+pub(crate) fn mul(args: &[u32]) -> Option<Answer> {
+    of_two(args, modint::eddy32_field_mul)
+}
+
+// The power, and how many multiplications were made for it.
+pub(crate) fn pow(args: &[u32]) -> Option<Answer> {
+    let [a, e] = args else {
+        return None;
+    };
+    let power = modint::eddy32_field_pow(low_word(*a), low_word(*e));
+    answer::numbers(&[power.value.value().into(), power.multiplications])
 }

@@ -1,223 +1,174 @@
-// The operations on sketches in slots: kinds 1 to 8, 10 to 13 and 23 to 25.
-use crate::slots::PLACES;
-use crate::{agree, slots, widths};
+// The operations on sketches in slots. A slot is given by its number.
+use crate::answer;
+use crate::answer::Answer;
+use crate::slots::{Slot, Slots};
+use crate::widths::{MOST, low_byte, low_word, narrowed};
 use exports32::{decoder, packet, power_sum, surplus};
 use lent::Number;
 use modint32::Word;
 
-fn put(args: &[u32], expected: &[u32], held: &mut [Word; PLACES]) -> bool {
-    if args.len() == 0 {
-        return false;
-    }
-    let length = args.len() - 1;
-    if length > 512 {
-        return false;
-    }
-    let mut words: [Word; 512] = [0; 512];
-    if !widths::put_words(&args[1..], &mut words) {
-        return false;
-    }
-    if !slots::put(held, args[0], &words[0..length]) {
-        return false;
-    }
-    expected.len() == 0
+pub(crate) fn put(args: &[u32], slots: &mut Slots) -> Option<Answer> {
+    let [slot, words @ ..] = args else {
+        return None;
+    };
+    let words = narrowed(words)?;
+    slots.slot_mut(*slot).put(words.as_slice())?;
+    answer::numbers(&[])
 }
 
-fn well_formed(args: &[u32], expected: &[u32], held: &[Word; PLACES]) -> bool {
-    if args.len() != 1 {
-        return false;
-    }
-    let words = slots::load(held, args[0]);
-    let end = slots::length_of(held, args[0]);
-    agree::one(power_sum::eddy32_well_formed(&words[0..end]), expected)
+pub(crate) fn well_formed(args: &[u32], slots: &Slots) -> Option<Answer> {
+    let [slot] = args else {
+        return None;
+    };
+    let words = slots.slot(*slot).words();
+    answer::numbers(&[power_sum::eddy32_well_formed(words)])
 }
 
 // The answers are 1 for a negative count and 0 for any other, and its size.
-fn signed_count(args: &[u32], expected: &[u32], held: &[Word; PLACES]) -> bool {
-    if args.len() != 1 {
-        return false;
-    }
-    let words = slots::load(held, args[0]);
-    let end = slots::length_of(held, args[0]);
-    let count = surplus::eddy32_signed_count(&words[0..end]);
-    let negative = if lent::below_zero(count) == 0 { 0 } else { 1 };
-    agree::two(negative, lent::size(count), expected)
-}
-
-// A call that changes words, given a number or further sketches. Answers the refusal.
-fn changed(kind: u32, words: &mut [Word], left: &[Word], right: &[Word], number: u32) -> u32 {
-    match kind {
-        1 => power_sum::eddy32_new(widths::size(number), words),
-        4 => power_sum::eddy32_insert(words, widths::low_word(number)),
-        5 => power_sum::eddy32_remove(words, widths::low_word(number)),
-        6 => power_sum::eddy32_sub_assign(words, right),
-        24 => surplus::eddy32_negate(left, words),
-        _ => power_sum::eddy32_sub(left, right, words),
-    }
-}
-
-fn change_as(
-    kind: u32,
-    words: &mut [Word],
-    left: &[Word],
-    right: &[Word],
-    number: u32,
-    expected: &[u32],
-) -> bool {
-    let refusal = changed(kind, &mut *words, left, right, number);
-    agree::slot(refusal, words, expected)
-}
-
-// The slot that changes is the first, and of the kinds 7 and 24 the last; the second argument is a number or a slot.
-fn change(kind: u32, args: &[u32], expected: &[u32], held: &mut [Word; PLACES]) -> bool {
-    if args.len() < 2 {
-        return false;
-    }
-    let slot = match kind {
-        7 | 24 => args[args.len() - 1],
-        _ => args[0],
+pub(crate) fn signed_count(args: &[u32], slots: &Slots) -> Option<Answer> {
+    let [slot] = args else {
+        return None;
     };
-    let left = slots::load(held, args[0]);
-    let left_end = slots::length_of(held, args[0]);
-    let right = slots::load(held, args[1]);
-    let right_end = slots::length_of(held, args[1]);
-    let mut words = slots::load(held, slot);
-    let end = slots::length_of(held, slot);
-    let agrees = change_as(
-        kind,
-        &mut words[0..end],
-        &left[0..left_end],
-        &right[0..right_end],
-        args[1],
-        expected,
-    );
-    slots::save(held, slot, words);
-    agrees
+    let count = surplus::eddy32_signed_count(slots.slot(*slot).words());
+    answer::numbers(&[u32::from(count < 0), count.unsigned_abs()])
 }
 
-fn listed(kind: u32, words: &[Word], log: &[Word], buffer: &mut [Word]) -> Number {
-    match kind {
-        8 => decoder::eddy32_to_coeffs(words, buffer),
-        25 => surplus::eddy32_decode_surplus_with_log(words, log, buffer),
-        _ => decoder::eddy32_decode_with_log(words, log, buffer),
-    }
+// A call that changes a slot's words. The answers are its refusal and the words.
+fn change<F: FnOnce(&mut [Word]) -> u32>(slot: &mut Slot, call: F) -> Option<Answer>
+    requires { F.IsAlwaysCallable call }
+{
+    let refusal = call(slot.words_mut());
+    answer::followed(&[refusal], slot.words())
 }
 
-fn list_into(
-    kind: u32,
-    words: &[Word],
-    log: &[Word],
-    buffer: &mut [Word],
-    expected: &[u32],
-) -> bool {
-    let number = listed(kind, words, log, &mut *buffer);
-    agree::number_and_words(number, buffer, expected)
+pub(crate) fn new(args: &[u32], slots: &mut Slots) -> Option<Answer> {
+    let [slot, threshold, ..] = args else {
+        return None;
+    };
+    change(slots.slot_mut(*slot), |words| {
+        power_sum::eddy32_new(*threshold as usize, words)
+    })
 }
 
-fn list(kind: u32, args: &[u32], expected: &[u32], held: &[Word; PLACES]) -> bool {
-    if args.len() < 3 {
-        return false;
-    }
-    let room = widths::size(args[1]);
-    if room > 512 {
-        return false;
-    }
-    let length = args.len() - 3;
-    if length > 512 {
-        return false;
-    }
-    let mut log: [Word; 512] = [0; 512];
-    if !widths::put_words(&args[3..], &mut log) {
-        return false;
-    }
-    let words = slots::load(held, args[0]);
-    let end = slots::length_of(held, args[0]);
-    let mut buffer = [widths::low_word(args[2]); 512];
-    list_into(
-        kind,
-        &words[0..end],
-        &log[0..length],
-        &mut buffer[0..room],
-        expected,
-    )
+pub(crate) fn insert(args: &[u32], slots: &mut Slots) -> Option<Answer> {
+    let [slot, code, ..] = args else {
+        return None;
+    };
+    change(slots.slot_mut(*slot), |words| {
+        power_sum::eddy32_insert(words, low_word(*code))
+    })
 }
 
-fn serialized(kind: u32, words: &[Word], hint: usize, buffer: &mut [u8]) -> Number {
-    match kind {
-        11 => packet::eddy32_serialize(words, buffer),
-        _ => packet::eddy32_serialize_with_hint(words, buffer, hint),
-    }
+pub(crate) fn remove(args: &[u32], slots: &mut Slots) -> Option<Answer> {
+    let [slot, code, ..] = args else {
+        return None;
+    };
+    change(slots.slot_mut(*slot), |words| {
+        power_sum::eddy32_remove(words, low_word(*code))
+    })
 }
 
-fn serialize_into(
-    kind: u32,
-    words: &[Word],
-    hint: u32,
-    buffer: &mut [u8],
-    expected: &[u32],
-) -> bool {
-    let number = serialized(kind, words, widths::size(hint), &mut *buffer);
-    agree::number_and_bytes(number, buffer, expected)
+pub(crate) fn sub_assign(args: &[u32], slots: &mut Slots) -> Option<Answer> {
+    let [slot, right, ..] = args else {
+        return None;
+    };
+    let right = *slots.slot(*right);
+    change(slots.slot_mut(*slot), |words| {
+        power_sum::eddy32_sub_assign(words, right.words())
+    })
 }
 
-// The room and the fill are the last arguments; of kind 12 the second is the hint.
-fn serialize(kind: u32, args: &[u32], expected: &[u32], held: &[Word; PLACES]) -> bool {
-    if args.len() < 3 {
-        return false;
-    }
-    let room = widths::size(args[args.len() - 2]);
-    if room > 512 {
-        return false;
-    }
-    let words = slots::load(held, args[0]);
-    let end = slots::length_of(held, args[0]);
-    let fill = widths::low_byte(args[args.len() - 1]);
-    let mut buffer = [fill; 512];
-    serialize_into(
-        kind,
-        &words[0..end],
-        args[1],
-        &mut buffer[0..room],
-        expected,
-    )
+// The difference goes into the slot that stands last.
+pub(crate) fn sub(args: &[u32], slots: &mut Slots) -> Option<Answer> {
+    let [left, right, ..] = args else {
+        return None;
+    };
+    let into = args.last()?;
+    let left = *slots.slot(*left);
+    let right = *slots.slot(*right);
+    change(slots.slot_mut(*into), |words| {
+        power_sum::eddy32_sub(left.words(), right.words(), words)
+    })
 }
 
-fn deserialize_into(packet: &[u8], words: &mut [Word], expected: &[u32]) -> bool {
-    let refusal = packet::eddy32_deserialize(packet, &mut *words);
-    agree::slot(refusal, words, expected)
+// The negation goes into the slot that stands last.
+pub(crate) fn negate(args: &[u32], slots: &mut Slots) -> Option<Answer> {
+    let [slot, .., into] = args else {
+        return None;
+    };
+    let sketch = *slots.slot(*slot);
+    change(slots.slot_mut(*into), |words| {
+        surplus::eddy32_negate(sketch.words(), words)
+    })
 }
 
-fn deserialize_from(packet: &[u8], slot: u32, expected: &[u32], held: &mut [Word; PLACES]) -> bool {
-    let mut words = slots::load(held, slot);
-    let end = slots::length_of(held, slot);
-    let agrees = deserialize_into(packet, &mut words[0..end], expected);
-    slots::save(held, slot, words);
-    agrees
+// A call that writes a list into a buffer, given a sketch and a log. The arguments are the slot, the room in the buffer, what fills it
+// before, and the log.
+fn list<F>(args: &[u32], slots: &Slots, call: F) -> Option<Answer>
+where
+    F: FnOnce(&[Word], &[Word], &mut [Word]) -> Number,
+    requires { F.IsAlwaysCallable call }
+{
+    let [slot, room, fill, log @ ..] = args else {
+        return None;
+    };
+    let log = narrowed(log)?;
+    let mut places = [low_word(*fill); MOST];
+    let buffer = places.get_mut(..*room as usize)?;
+    let number = call(slots.slot(*slot).words(), log.as_slice(), &mut *buffer);
+    answer::written(number, buffer)
 }
 
-fn deserialize(args: &[u32], expected: &[u32], held: &mut [Word; PLACES]) -> bool {
-    if args.len() == 0 {
-        return false;
-    }
-    let length = args.len() - 1;
-    if length > 512 {
-        return false;
-    }
-    let mut packet = [0u8; 512];
-    if !widths::put_bytes(&args[1..], &mut packet) {
-        return false;
-    }
-    deserialize_from(&packet[0..length], args[0], expected, held)
+pub(crate) fn to_coeffs(args: &[u32], slots: &Slots) -> Option<Answer> {
+    list(args, slots, |words, _log, buffer| {
+        decoder::eddy32_to_coeffs(words, buffer)
+    })
 }
 
-pub(crate) fn run(kind: u32, args: &[u32], expected: &[u32], held: &mut [Word; PLACES]) -> bool {
-    match kind {
-        2 => put(args, expected, held),
-        3 => well_formed(args, expected, held),
-        8 | 10 | 25 => list(kind, args, expected, held),
-        11 | 12 => serialize(kind, args, expected, held),
-        13 => deserialize(args, expected, held),
-        23 => signed_count(args, expected, held),
-        _ => change(kind, args, expected, held),
-    }
+pub(crate) fn decode_with_log(args: &[u32], slots: &Slots) -> Option<Answer> {
+    list(args, slots, decoder::eddy32_decode_with_log)
+}
+
+pub(crate) fn decode_surplus_with_log(args: &[u32], slots: &Slots) -> Option<Answer> {
+    list(args, slots, surplus::eddy32_decode_surplus_with_log)
+}
+
+// A call that writes a packet into a buffer. The first argument is the slot, and the last two are the room in the buffer and what fills it
+// before.
+fn packet<F>(args: &[u32], slots: &Slots, call: F) -> Option<Answer>
+where
+    F: FnOnce(&[Word], &mut [u8]) -> Number,
+    requires { F.IsAlwaysCallable call }
+{
+    let [slot, .., room, fill] = args else {
+        return None;
+    };
+    let mut places = [low_byte(*fill); MOST];
+    let buffer = places.get_mut(..*room as usize)?;
+    let number = call(slots.slot(*slot).words(), &mut *buffer);
+    answer::written(number, buffer)
+}
+
+pub(crate) fn serialize(args: &[u32], slots: &Slots) -> Option<Answer> {
+    packet(args, slots, packet::eddy32_serialize)
+}
+
+// The second argument is the hint.
+pub(crate) fn serialize_with_hint(args: &[u32], slots: &Slots) -> Option<Answer> {
+    let [_, hint, ..] = args else {
+        return None;
+    };
+    packet(args, slots, |words, buffer| {
+        packet::eddy32_serialize_with_hint(words, buffer, *hint as usize)
+    })
+}
+
+pub(crate) fn deserialize(args: &[u32], slots: &mut Slots) -> Option<Answer> {
+    let [slot, bytes @ ..] = args else {
+        return None;
+    };
+    let bytes = narrowed(bytes)?;
+    change(slots.slot_mut(*slot), |words| {
+        packet::eddy32_deserialize(bytes.as_slice(), words)
+    })
 }

@@ -1,75 +1,57 @@
-// Three slots, each a slice of up to 40 words: first how many words each has, and then 40 places for each.
+// Three slots, each a slice of up to 40 words.
 ghost use Rattle.std.specs.Prelude.{◌≤◌};
 
 use modint32::Word;
 
 // The most words of a slot.
-pub(crate) const LONGEST: usize = 40;
+pub const LONGEST: usize = 40;
 
-// What all slots take.
-pub const PLACES: usize = 123;
+// The first `length` of these words, or all of them where there are not so many: `run` takes any slots, so no length is ruled out. An array,
+// and not an `ArrayVec`, since an operation works on copies of its slots.
+#[derive(Clone, Copy, Default)]
+pub struct Slot {
+    pub length: usize,
+    pub words: [Word; LONGEST],
+}
+
+impl Slot {
+    pub(crate) fn words(&self) -> &[Word] {
+        &self.words[..self.length.min(LONGEST)]
+    }
+
+    pub(crate) fn words_mut(&mut self) -> &mut [Word] {
+        &mut self.words[..self.length.min(LONGEST)]
+    }
+
+    // Makes the slot a slice of these words, where there is room for them.
+    pub(crate) fn put(&mut self, words: &[Word]) -> Option<()> {
+        self.words.get_mut(..words.len())?.copy_from_slice(words);
+        self.length = words.len();
+        Some(())
+    }
+}
+
+// The slots that the arguments of an operation name.
+#[derive(Clone, Copy, Default)]
+pub struct Slots(pub [Slot; 3]);
 
 // Every number but 0 and 1 stands for the third slot.
 fn index_of(slot: u32) -> usize
     ensures { result ≤ 2 }
 {
-    if slot == 0 {
-        0
-    } else if slot == 1 {
-        1
-    } else {
-        2
+    match slot {
+        0 => 0,
+        1 => 1,
+        _ => 2,
     }
 }
 
-// Where a slot's words begin.
-fn start_of(slot: u32) -> usize
-    ensures { result ≤ 83 }
-{
-    3 + LONGEST * index_of(slot)
-}
-
-fn at_most_longest(length: Word) -> usize
-    ensures { result ≤ 40 }
-{
-    let size = length as usize;
-    if size > LONGEST { LONGEST } else { size }
-}
-
-// How many words a slot has.
-pub(crate) fn length_of(slots: &[Word; PLACES], slot: u32) -> usize
-    ensures { result ≤ 40 }
-{
-    at_most_longest(slots[index_of(slot)])
-}
-
-// A slot's places: its words, and what stands behind them.
-pub(crate) fn load(slots: &[Word; PLACES], slot: u32) -> [Word; LONGEST] {
-    let start = start_of(slot);
-    let mut places: [Word; LONGEST] = [0; LONGEST];
-    for k in 0..LONGEST {
-        places[k] = slots[start + k];
+impl Slots {
+    pub(crate) fn slot(&self, slot: u32) -> &Slot {
+        &self.0[index_of(slot)]
     }
-    places
-}
 
-pub(crate) fn save(slots: &mut [Word; PLACES], slot: u32, places: [Word; LONGEST]) {
-    let start = start_of(slot);
-    for k in 0..LONGEST {
-        slots[start + k] = places[k];
+    pub(crate) fn slot_mut(&mut self, slot: u32) -> &mut Slot {
+        &mut self.0[index_of(slot)]
     }
-}
-
-// Makes a slot a slice of these words. Answers whether there is room for them.
-pub(crate) fn put(slots: &mut [Word; PLACES], slot: u32, words: &[Word]) -> bool {
-    let length = words.len();
-    if length > LONGEST {
-        return false;
-    }
-    slots[index_of(slot)] = length as Word;
-    let start = start_of(slot);
-    for k in 0..length {
-        slots[start + k] = words[k];
-    }
-    true
 }
