@@ -37,10 +37,12 @@ fn at_once(input: &[u8], expected: &[u8]) -> Result<bool, Refusal> {
 
 // All ways of feeding an input give what is expected. None is refused: there is room for every line and for every answer.
 fn agrees(input: &[u8], expected: &[u8]) -> Result<bool, Refusal> {
-    Ok(at_once(input, expected)?
-        && in_pieces(input, expected, 1)?
-        && in_pieces(input, expected, 7)?
-        && in_pieces(input, expected, 65536)?)
+    Ok(
+        at_once(input, expected)?
+            && in_pieces(input, expected, 1)?
+            && in_pieces(input, expected, 7)?
+            && in_pieces(input, expected, 65536)?,
+    )
 }
 
 impl Tally {
