@@ -1,21 +1,23 @@
 // A line of the list: a kind, the number of arguments, the arguments, the number of answers, the answers.
 
+use operations::{operation, slots};
+
 // The kinds of operations on 16-bit codes are those on 32-bit codes and this number.
 const NARROW: u32 = 100;
 
 // The slots of both widths.
 #[derive(Clone, Copy, Default)]
 pub(crate) struct Slots {
-    wide: operations32::slots::Slots,
-    narrow: operations16::slots::Slots,
+    wide: slots::Slots<u32>,
+    narrow: slots::Slots<u16>,
 }
 
 impl Slots {
     // Whether an operation is answered as expected.
     fn run(&mut self, kind: u32, args: &[u32], expected: &[u32]) -> bool {
         match kind.checked_sub(NARROW) {
-            None => operations32::operation::run(kind, args, expected, &mut self.wide),
-            Some(kind) => operations16::operation::run(kind, args, expected, &mut self.narrow),
+            None => operation::run(kind, args, expected, &mut self.wide),
+            Some(kind) => operation::run(kind, args, expected, &mut self.narrow),
         }
     }
 

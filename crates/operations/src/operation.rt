@@ -2,6 +2,26 @@
 use crate::answer::Answer;
 use crate::slots::Slots;
 use crate::{field, sketch};
+use exports::layout::Layout;
+use exports::one_reduction;
+
+// A word that the list has operations for: a number of a line can be one.
+pub trait Operand: Layout + Default + Into<u32> {
+    // The value with one reduction, which only 16-bit codes have.
+    fn eval_precompute(args: &[u32]) -> Option<Answer>;
+}
+
+impl Operand for u32 {
+    fn eval_precompute(_args: &[u32]) -> Option<Answer> {
+        None
+    }
+}
+
+impl Operand for u16 {
+    fn eval_precompute(args: &[u32]) -> Option<Answer> {
+        field::evaluated(args, one_reduction::eval_precompute)
+    }
+}
 
 // What a line of the list asks for, under the names of the calls.
 #[derive(Clone, Copy, Debug, PartialEq, Eq)]
@@ -15,6 +35,7 @@ enum Operation {
     Sub,
     ToCoeffs,
     Eval,
+    EvalPrecompute,
     DecodeWithLog,
     Serialize,
     SerializeWithHint,
@@ -27,7 +48,6 @@ enum Operation {
     FieldInv,
     FieldPow,
     FieldPowMultiplications,
-    EvalPrecompute,
     SignedCount,
     Negate,
     DecodeSurplusWithLog,
@@ -74,7 +94,7 @@ impl TryFrom<u32> for Operation {
 
 impl Operation {
     // What the operation answers. There is no answer where its arguments are too few, too many or no words or bytes.
-    fn answer(self, args: &[u32], slots: &mut Slots) -> Option<Answer> {
+    fn answer<W: Operand>(self, args: &[u32], slots: &mut Slots<W>) -> Option<Answer> {
         match self {
             Operation::New => sketch::new(args, slots),
             Operation::Put => sketch::put(args, slots),
@@ -84,20 +104,20 @@ impl Operation {
             Operation::SubAssign => sketch::sub_assign(args, slots),
             Operation::Sub => sketch::sub(args, slots),
             Operation::ToCoeffs => sketch::to_coeffs(args, slots),
-            Operation::Eval => field::eval(args),
+            Operation::Eval => field::eval::<W>(args),
+            Operation::EvalPrecompute => W::eval_precompute(args),
             Operation::DecodeWithLog => sketch::decode_with_log(args, slots),
             Operation::Serialize => sketch::serialize(args, slots),
             Operation::SerializeWithHint => sketch::serialize_with_hint(args, slots),
             Operation::Deserialize => sketch::deserialize(args, slots),
-            Operation::FieldReduce => field::reduce(args),
-            Operation::FieldAdd => field::add(args),
-            Operation::FieldSub => field::sub(args),
-            Operation::FieldMul => field::mul(args),
-            Operation::FieldNeg => field::neg(args),
-            Operation::FieldInv => field::inv(args),
-            Operation::FieldPow => field::pow(args),
-            Operation::FieldPowMultiplications => field::pow_multiplications(args),
-            Operation::EvalPrecompute => field::eval_precompute(args),
+            Operation::FieldReduce => field::reduce::<W>(args),
+            Operation::FieldAdd => field::add::<W>(args),
+            Operation::FieldSub => field::sub::<W>(args),
+            Operation::FieldMul => field::mul::<W>(args),
+            Operation::FieldNeg => field::neg::<W>(args),
+            Operation::FieldInv => field::inv::<W>(args),
+            Operation::FieldPow => field::pow::<W>(args),
+            Operation::FieldPowMultiplications => field::pow_multiplications::<W>(args),
             Operation::SignedCount => sketch::signed_count(args, slots),
             Operation::Negate => sketch::negate(args, slots),
             Operation::DecodeSurplusWithLog => sketch::decode_surplus_with_log(args, slots),
@@ -106,11 +126,11 @@ impl Operation {
 }
 
 // What the operation of this kind answers, where there is one.
-fn answer(kind: u32, args: &[u32], slots: &mut Slots) -> Option<Answer> {
+fn answer<W: Operand>(kind: u32, args: &[u32], slots: &mut Slots<W>) -> Option<Answer> {
     Operation::try_from(kind).ok()?.answer(args, slots)
 }
 
 // Whether the operation is answered as expected.
-pub fn run(kind: u32, args: &[u32], expected: &[u32], slots: &mut Slots) -> bool {
+pub fn run<W: Operand>(kind: u32, args: &[u32], expected: &[u32], slots: &mut Slots<W>) -> bool {
     answer(kind, args, slots).is_some_and(|answer| answer.as_slice() == expected)
 }
