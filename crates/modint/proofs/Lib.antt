@@ -1,0 +1,2 @@
+-- What the proofs over any width rest on.
+pub mod Width
