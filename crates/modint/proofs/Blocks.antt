@@ -1,11 +1,13 @@
 -- What a call of a generic function is passed beside its arguments: its type's Word block, which says what the type's words are, and what no contract asks of.
 -- Assumes nothing.
+use Prim.Native.Nat.{ℕ}
 use denote.RattleType.{RattleType}
 use denote.Builtin.{u16, u32}
 use denote.Param.Laws.{Laws, IsCopy}
 use mir.Syntax.{Dict}
 use Rattle.std.specs.declared.clone.Clone as clone
 use Rattle.std.specs.declared.cmp.PartialEq as equal
+use Rattle.rules.specs.Kind.{Kind, kind16, kind32}
 use Rattle.modint.specs.declared.word.Word as word
 use Rattle.modint.specs.contracts.narrow.U16Word.TheImpl as narrow
 use Rattle.modint.specs.contracts.wide.U32Word.TheImpl as wide
@@ -37,3 +39,21 @@ abbrev pub passing : {T : RattleType} (w : Word T) (p : Passed T) {Post : (T : R
     → ((T : RattleType) (l : Laws T) (c : IsCopy T) → Word T → Dict → clone.Ghosts T.Denot → Dict → equal.Ghosts T.Denot → Dict → Post T l c)
     → Post T p.laws p.copy
 passing {T} w p post = post T p.laws p.copy w p.word_code p.clone p.clone_code p.equal p.equal_code
+
+-- The numbers of a width: its kind, its prime, and the greatest number of a code.
+pub record Numbers : Type 0 where
+  pub kind : Kind
+  pub prime : ℕ
+  pub most : ℕ
+
+-- Those of codes of 16 bits.
+abbrev pub numbers16 : Numbers
+numbers16 = record { kind = kind16; prime = 65521; most = 65535 }
+
+-- Those of codes of 32 bits.
+abbrev pub numbers32 : Numbers
+numbers32 = record { kind = kind32; prime = 4294967291; most = 4294967295 }
+
+-- A fact of a contract at both widths: of what it promises at each, and of the width's numbers.
+abbrev pub AtBoth : {Post : Type 1} → Post → Post → (Post → Numbers → Type 0) → Type 0
+AtBoth narrow wide fact = fact narrow numbers16 × fact wide numbers32
