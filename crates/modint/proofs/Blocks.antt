@@ -1,4 +1,5 @@
--- What a call of a generic function is passed beside its arguments: its type's Word block, which says what the type's words are, and what no contract asks of.
+-- What a call of a generic function is passed beside its arguments: its type's Word block, which says what the type's words are, and what no
+-- contract asks of.
 -- Assumes nothing.
 use Prim.Native.Nat.{ℕ}
 use denote.RattleType.{RattleType}
@@ -34,7 +35,8 @@ pub record Passed (T : RattleType) : Type 2 where
   pub equal : equal.Ghosts T.Denot
   pub equal_code : Dict
 
--- What a generic contract promises where a Word block and the rest are passed: of the lifetimes, the arguments, the result and the arguments at the exit.
+-- What a generic contract promises where a Word block and the rest are passed: a fact of the lifetimes, the arguments, the result and the arguments
+-- at the exit.
 abbrev pub passing : {T : RattleType} (w : Word T) (p : Passed T) {Post : (T : RattleType) → Laws T → IsCopy T → Type 1}
     → ((T : RattleType) (l : Laws T) (c : IsCopy T) → Word T → Dict → clone.Ghosts T.Denot → Dict → equal.Ghosts T.Denot → Dict → Post T l c)
     → Post T p.laws p.copy

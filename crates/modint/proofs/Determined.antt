@@ -1,5 +1,5 @@
--- Every public call of the field determines its result: any two results that its contract allows for one input are equal. The generic calls do so over any
--- width, a word's own at both. The table of inverses alone is told by a test of its entries, and not by an equation.
+-- Every public call of the field determines its result: any two results that its contract allows for one input are equal. The generic calls do so
+-- over any width, a word's own at both. The table of inverses alone is told by a test of its entries, and not by an equation.
 -- Assumes nothing.
 use Prim.Native.Nat.{ℕ}
 use denote.RattleType.{RattleType}

@@ -2,7 +2,7 @@
 -- Assumes nothing.
 use Prim.Native.Nat.{ℕ, ◌-◌}
 use mathlib.Core.Path.{refl, sym, ◌∙◌}
-use mathlib.Core.Bool.{Bool, true, false, cond}
+use mathlib.Core.Bool.{true, false}
 use mathlib.Core.List.{List, [], ◌∷◌}
 use contract.Lifetimes.{Lfts}
 use denote.Ref.{Bor}
@@ -14,6 +14,7 @@ use Rattle.rules.specs.Determines.{Determines, RefusesBoth}
 use Rattle.rules.proofs.Determined.{lent, by_equation, differs, both_differ}
 use Rattle.modint.proofs.Width.{word_of_number}
 use Rattle.modint.proofs.Blocks.{Word, word16, word32, Passed, passing, AtBoth}
+use Rattle.modint.proofs.Wrong.{itself, yes_or_no}
 use Rattle.modint.proofs.slices.greatest.Reads as greatest
 use Rattle.modint.proofs.slices.all_below.Reads as all_below
 
@@ -26,14 +27,6 @@ module _ {T : RattleType} (w : Word T) (p : Passed T) (κs : Lfts 2) (numbers nu
   pub all_below_determined : Determines (λ r. passing w p all_below.Post κs (numbers, tt) r (numbers₁, tt))
   all_below_determined = by_equation _
 
--- What is read off a number is the number.
-abbrev itself : ℕ → ℕ
-itself n = n
-
--- What is read off a test.
-abbrev yes_or_no : Bool → ℕ
-yes_or_no b = cond b 1 0
-
 module _ (p : Passed u16) (q : Passed u32) (κs : Lfts 2) (numbers₁ : Bor (List ℕ)) where
   -- The last word for the greatest, or the first.
   pub greatest_wrong : AtBoth (passing word16 p greatest.Post) (passing word32 q greatest.Post)
@@ -43,7 +36,8 @@ module _ (p : Passed u16) (q : Passed u32) (κs : Lfts 2) (numbers₁ : Bor (Lis
 
   -- The prime is said to be below itself, and the number before it not to be.
   pub all_below_wrong : AtBoth (passing word16 p all_below.Post) (passing word32 q all_below.Post)
-      (λ post w. (post κs (lent (w.prime ∷ []), tt) true (numbers₁, tt) → ⊥) × (post κs (lent ((w.prime - 1) ∷ []), tt) false (numbers₁, tt) → ⊥))
+      (λ post w. (post κs (lent (w.prime ∷ []), tt) true (numbers₁, tt) → ⊥)
+      × (post κs (lent ((w.prime - 1) ∷ []), tt) false (numbers₁, tt) → ⊥))
   unfolding every
   all_below_wrong =
       ((differs yes_or_no true refl, differs yes_or_no false refl), (differs yes_or_no true refl, differs yes_or_no false refl))

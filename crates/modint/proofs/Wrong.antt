@@ -1,9 +1,10 @@
--- Two wrong answers for each public call of the field, at one input each and at both widths: the contract allows neither. The table of inverses is told by a
--- test of all its entries, which any wrong entry fails.
+-- Two wrong answers for each public call of the field, at one input each and at both widths: the contract allows neither. The table of inverses is
+-- told by a test of all its entries, which any wrong entry fails.
 -- Assumes nothing.
 use Prim.Native.Nat.{ℕ, ◌+◌, ◌-◌}
-use mathlib.Core.Path.{refl}
+use mathlib.Core.Path.{◌≡◌, refl}
 use mathlib.Core.Bool.{Bool, true, false, cond}
+use lib.Dec.{eqb}
 use denote.Builtin.{u16, u32}
 use contract.Lifetimes.{Lfts}
 use Rattle.numbers.specs.Power.{power_within, power_mod}
@@ -55,9 +56,11 @@ use Rattle.modint.proofs.Code.pow.Reads as code_pow
 use Rattle.modint.proofs.Code.inv.Reads as code_inv
 use Rattle.modint.proofs.precompute.inverse_at.Reads as inverse_at
 
+-- The code with this number.
 abbrev code : ℕ → Code ℕ
 code n = record { 0 = n }
 
+-- The residue with this number.
 abbrev wrap : ℕ → Residue ℕ
 wrap n = record { 0 = n }
 
@@ -66,11 +69,11 @@ abbrev val : Residue ℕ → ℕ
 val r = r.0
 
 -- What is read off a number is the number.
-abbrev itself : ℕ → ℕ
+abbrev pub itself : ℕ → ℕ
 itself n = n
 
 -- What is read off a test.
-abbrev yes_or_no : Bool → ℕ
+abbrev pub yes_or_no : Bool → ℕ
 yes_or_no b = cond b 1 0
 
 -- ---- words
@@ -89,10 +92,12 @@ low_wrong = (both_differ itself _ _ refl refl, both_differ itself _ _ refl refl)
 
 -- One more than the word, or 0.
 pub number_wrong : AtBoth number16.Post number32.Post (λ post w. RefusesBoth (Holds (post tt) (w.most, tt)) (w.most + 1) 0)
-number_wrong = ((λ p. differs itself 65536 refl p.0, λ p. differs itself 0 refl p.0), (λ p. differs itself 4294967296 refl p.0, λ p. differs itself 0 refl p.0))
+number_wrong =
+    ((λ p. differs itself 65536 refl p.0, λ p. differs itself 0 refl p.0), (λ p. differs itself 4294967296 refl p.0, λ p. differs itself 0 refl p.0))
 
 -- The prime is said to be a residue, and the number before it not to be.
-pub is_residue_wrong : AtBoth is_residue16.Post is_residue32.Post (λ post w. (Holds (post tt) (w.prime, tt) true → ⊥) × (Holds (post tt) (w.prime - 1, tt) false → ⊥))
+pub is_residue_wrong : AtBoth is_residue16.Post is_residue32.Post
+    (λ post w. (Holds (post tt) (w.prime, tt) true → ⊥) × (Holds (post tt) (w.prime - 1, tt) false → ⊥))
 is_residue_wrong = ((differs yes_or_no true refl, differs yes_or_no false refl), (differs yes_or_no true refl, differs yes_or_no false refl))
 
 -- The smaller, or the sum.
@@ -125,6 +130,11 @@ halved = record { value = wrap 512; multiplications = 4 }
 
 abbrev overcounted : Powered ℕ
 overcounted = record { value = wrap 1024; multiplications = 5 }
+
+-- Neither is allowed where the rule has another number and another count.
+neither : {rule : Powered ℕ} → eqb 512 (val rule.value) ≡ false → eqb 5 rule.multiplications ≡ false
+    → RefusesBoth (λ (r : Powered ℕ). r ≡ rule) halved overcounted
+neither number count = (differs (λ (r : Powered ℕ). val r.value) halved number, differs (λ (r : Powered ℕ). r.multiplications) overcounted count)
 
 module _ (p : Passed u16) (q : Passed u32) (κs : Lfts 1) where
   -- ---- residues
@@ -221,10 +231,10 @@ module _ (p : Passed u16) (q : Passed u32) (κs : Lfts 1) where
   pub residue_pow_wrong : AtBoth (passing word16 p residue_pow.Post) (passing word32 q residue_pow.Post)
       (λ post _. RefusesBoth (Holds (post κs) (wrap 2, (10, tt))) halved overcounted)
   unfolding power_mod power_within multiplications multiplications_within
-  residue_pow_wrong = ((differs (λ (r : Powered ℕ). val r.value) halved refl, differs (λ (r : Powered ℕ). r.multiplications) overcounted refl), (differs (λ (r : Powered ℕ). val r.value) halved refl, differs (λ (r : Powered ℕ). r.multiplications) overcounted refl))
+  residue_pow_wrong = (neither refl refl, neither refl refl)
 
   -- So for the power of a code whose residue is 2.
   pub code_pow_wrong : AtBoth (passing word16 p code_pow.Post) (passing word32 q code_pow.Post)
       (λ post w. RefusesBoth (Holds (post κs) (code (w.prime + 2), (10, tt))) halved overcounted)
   unfolding power_mod power_within multiplications multiplications_within
-  code_pow_wrong = ((differs (λ (r : Powered ℕ). val r.value) halved refl, differs (λ (r : Powered ℕ). r.multiplications) overcounted refl), (differs (λ (r : Powered ℕ). val r.value) halved refl, differs (λ (r : Powered ℕ). r.multiplications) overcounted refl))
+  code_pow_wrong = (neither refl refl, neither refl refl)
