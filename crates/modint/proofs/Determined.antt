@@ -1,11 +1,16 @@
 -- Every public call of the field determines its result: any two results that its contract allows for one input are equal. The generic calls do so
--- over any width, a word's own at both. The table of inverses alone is told by a test of its entries, and not by an equation.
+-- over any width, a word's own at both.
 -- Assumes nothing.
-use Prim.Native.Nat.{ℕ}
+use Rattle.std.proofs.Common.{ℕ, ◌≡◌, ◌<◌, sym, ◌∙◌, subst, true, List, length}
+use Rattle.std.proofs.lemmas.List.{ext_get_or}
 use denote.RattleType.{RattleType}
 use contract.Lifetimes.{Lfts}
 use Rattle.rules.specs.Determines.{Holds, Determines}
+use Rattle.rules.specs.Field.{inverses_right}
 use Rattle.rules.proofs.Determined.{by_equation}
+use Rattle.rules.proofs.Field.{inverse_entry}
+use Rattle.modint.specs.Width.{Width, width16, width32}
+use Rattle.modint.proofs.Width.{word_of_number}
 use Rattle.modint.specs.declared.Code.{Code}
 use Rattle.modint.specs.declared.Residue.{Residue}
 use Rattle.modint.proofs.Blocks.{Word, Passed, passing, AtBoth}
@@ -31,6 +36,8 @@ use Rattle.modint.proofs.narrow.U16Word.times.Reads as times16
 use Rattle.modint.proofs.wide.U32Word.times.Reads as times32
 use Rattle.modint.proofs.narrow.U16Word.times_plus.Reads as times_plus16
 use Rattle.modint.proofs.wide.U32Word.times_plus.Reads as times_plus32
+use Rattle.modint.proofs.narrow.U16Word.inverses.Reads as inverses16
+use Rattle.modint.proofs.wide.U32Word.inverses.Reads as inverses32
 use Rattle.modint.proofs.Residue.reduce.Reads as reduce
 use Rattle.modint.proofs.Residue.zero.Reads as zero
 use Rattle.modint.proofs.Residue.value.Reads as value
@@ -66,7 +73,7 @@ low_determined = (λ number. by_equation _, λ number. by_equation _)
 
 -- The number of a word has one answer.
 pub number_determined : AtBoth number16.Post number32.Post (λ post _. (a : ℕ) → Determines (Holds (post tt) (a, tt)))
-number_determined = (λ a. λ r s p q. by_equation _ r s p.0 q.0, λ a. λ r s p q. by_equation _ r s p.0 q.0)
+number_determined = (λ a r s p q. p.0 ∙ sym q.0, λ a r s p q. p.0 ∙ sym q.0)
 
 -- The test whether a word is below the prime has one answer.
 pub is_residue_determined : AtBoth is_residue16.Post is_residue32.Post (λ post _. (a : ℕ) → Determines (Holds (post tt) (a, tt)))
@@ -95,6 +102,17 @@ times_determined = (λ a b. by_equation _, λ a b. by_equation _)
 -- A product of words with a further term has one answer.
 pub times_plus_determined : AtBoth times_plus16.Post times_plus32.Post (λ post _. (a b c : ℕ) → Determines (Holds (post tt) (a, (b, (c, tt)))))
 times_plus_determined = (λ a b c. by_equation _, λ a b c. by_equation _)
+
+-- Two tables whose entries are all right are one.
+one_table : {A : Type 0} (w : Width A) (l m : List A) → inverses_right w.kind w.num l ≡ true → inverses_right w.kind w.num m ≡ true → length l ≡ length m
+    → l ≡ m
+one_table w l m rl rm same =
+    ext_get_or (w.of 0) l m same (λ i h. word_of_number w
+    (inverse_entry w.kind w.num (w.of 0) l rl i h ∙ sym (inverse_entry w.kind w.num (w.of 0) m rm i (subst (λ (n : ℕ). i < n) same h))))
+
+-- The table of inverses has one answer.
+pub inverses_determined : AtBoth inverses16.Post inverses32.Post (λ post _. Determines (Holds (post tt) tt))
+inverses_determined = (λ r s p q. one_table width16 r s p.0 q.0 (p.1 ∙ sym q.1), λ r s p q. one_table width32 r s p.0 q.0 (p.1 ∙ sym q.1))
 
 -- ---- residues, codes and the table, over any width
 

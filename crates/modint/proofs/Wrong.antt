@@ -1,14 +1,16 @@
--- Two wrong answers for each public call of the field, at one input each and at both widths: the contract allows neither. The table of inverses is
--- told by a test of all its entries, which any wrong entry fails.
+-- Two wrong answers for each public call of the field, at one input each and at both widths: the contract allows neither.
 -- Assumes nothing.
 use Prim.Native.Nat.{ℕ, ◌+◌, ◌-◌}
 use mathlib.Core.Path.{◌≡◌, refl}
 use mathlib.Core.Bool.{Bool, true, false, cond}
 use lib.Dec.{eqb}
+use mathlib.Core.List.{[], ◌∷◌}
+use lib.ListN.{replicate}
+use Rattle.numbers.specs.Table.{every}
 use denote.Builtin.{u16, u32}
 use contract.Lifetimes.{Lfts}
 use Rattle.numbers.specs.Power.{power_within, power_mod}
-use Rattle.rules.specs.Field.{residue, multiplications_within, multiplications, inverse}
+use Rattle.rules.specs.Field.{residue, multiplications_within, multiplications, inverse, inverses_right}
 use Rattle.rules.specs.Determines.{Holds, RefusesBoth}
 use Rattle.rules.proofs.Determined.{differs, both_differ}
 use Rattle.modint.specs.declared.Code.{Code}
@@ -37,6 +39,8 @@ use Rattle.modint.proofs.narrow.U16Word.times.Reads as times16
 use Rattle.modint.proofs.wide.U32Word.times.Reads as times32
 use Rattle.modint.proofs.narrow.U16Word.times_plus.Reads as times_plus16
 use Rattle.modint.proofs.wide.U32Word.times_plus.Reads as times_plus32
+use Rattle.modint.proofs.narrow.U16Word.inverses.Reads as inverses16
+use Rattle.modint.proofs.wide.U32Word.inverses.Reads as inverses32
 use Rattle.modint.proofs.Residue.reduce.Reads as reduce
 use Rattle.modint.proofs.Residue.zero.Reads as zero
 use Rattle.modint.proofs.Residue.value.Reads as value
@@ -123,6 +127,12 @@ times_wrong = (both_differ itself _ _ refl refl, both_differ itself _ _ refl ref
 -- The term is left out, or multiplied too.
 pub times_plus_wrong : AtBoth times_plus16.Post times_plus32.Post (λ post _. RefusesBoth (Holds (post tt) (2, (3, (4, tt)))) 6 14)
 times_plus_wrong = (both_differ itself _ _ refl refl, both_differ itself _ _ refl refl)
+
+-- The table ends at its first entry, or has that at each place.
+pub inverses_wrong : AtBoth inverses16.Post inverses32.Post (λ post _. RefusesBoth (Holds (post tt) tt) (1 ∷ []) (replicate 32 1))
+unfolding inverses_right every power_mod power_within
+inverses_wrong =
+    ((λ p. differs itself _ refl p.1, λ p. differs yes_or_no _ refl p.0), (λ p. differs itself _ refl p.1, λ p. differs yes_or_no _ refl p.0))
 
 -- The power of 2 with the exponent 10: half of it, or one multiplication too many.
 abbrev halved : Powered ℕ
