@@ -104,8 +104,8 @@ pub times_plus_determined : AtBoth times_plus16.Post times_plus32.Post (λ post 
 times_plus_determined = (λ a b c. by_equation _, λ a b c. by_equation _)
 
 -- Two tables whose entries are all right are one.
-one_table : {A : Type 0} (w : Width A) (l m : List A) → inverses_right w.kind w.num l ≡ true → inverses_right w.kind w.num m ≡ true → length l ≡ length m
-    → l ≡ m
+one_table : {A : Type 0} (w : Width A) (l m : List A) → inverses_right w.kind w.num l ≡ true → inverses_right w.kind w.num m ≡ true
+    → length l ≡ length m → l ≡ m
 one_table w l m rl rm same =
     ext_get_or (w.of 0) l m same (λ i h. word_of_number w
     (inverse_entry w.kind w.num (w.of 0) l rl i h ∙ sym (inverse_entry w.kind w.num (w.of 0) m rm i (subst (λ (n : ℕ). i < n) same h))))

@@ -97,7 +97,7 @@ low_wrong = (both_differ itself _ _ refl refl, both_differ itself _ _ refl refl)
 -- One more than the word, or 0.
 pub number_wrong : AtBoth number16.Post number32.Post (λ post w. RefusesBoth (Holds (post tt) (w.most, tt)) (w.most + 1) 0)
 number_wrong =
-    ((λ p. differs itself 65536 refl p.0, λ p. differs itself 0 refl p.0), (λ p. differs itself 4294967296 refl p.0, λ p. differs itself 0 refl p.0))
+    ((λ p. differs itself _ refl p.0, λ p. differs itself _ refl p.0), (λ p. differs itself _ refl p.0, λ p. differs itself _ refl p.0))
 
 -- The prime is said to be a residue, and the number before it not to be.
 pub is_residue_wrong : AtBoth is_residue16.Post is_residue32.Post
