@@ -28,7 +28,7 @@ module _ {W : Type 0} (w : Width W) where
 
   -- A word put at a place puts its number there.
   pub nums_set : (l : List W) (k : ℕ) (x : W) → w.nums (set l k x) ≡ set (w.nums l) k (w.num x)
-  nums_set l k x = rw (w.nums_are, w.nums_are l) (map-set w.num l k x)
+  nums_set l k x = w.nums_are (set l k x) ∙ map-set w.num l k x ∙ sym (ap (λ (m : List ℕ). set m k (w.num x)) (w.nums_are l))
 
   -- The first words have the first numbers.
   pub nums_take : (n : ℕ) (l : List W) → w.nums (take n l) ≡ take n (w.nums l)
@@ -40,7 +40,9 @@ module _ {W : Type 0} (w : Width W) where
 
   -- Words behind words have the numbers of both.
   pub nums_append : (l m : List W) → w.nums (l ++ m) ≡ w.nums l ++ w.nums m
-  nums_append l m = w.nums_are (l ++ m) ∙ map-append w.num l m ∙ sym (ap (λ (z : List ℕ). z ++ w.nums m) (w.nums_are l) ∙ ap (λ (z : List ℕ). map w.num l ++ z) (w.nums_are m))
+  nums_append l m =
+      w.nums_are (l ++ m) ∙ map-append w.num l m
+      ∙ sym (ap (λ (z : List ℕ). z ++ w.nums m) (w.nums_are l) ∙ ap (λ (z : List ℕ). map w.num l ++ z) (w.nums_are m))
 
   -- Equal words have equal numbers.
   pub nums_same : (n : ℕ) (x : W) → w.nums (replicate n x) ≡ replicate n (w.num x)
