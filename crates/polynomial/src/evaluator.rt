@@ -107,8 +107,8 @@ fn put_zeros<W: Word>(log: &[W], values: &[W], out: &mut [W]) -> usize
     ensures few { result ≤ length log.now }
 {
     let mut n: usize = 0;
-    for (entry, value) in log.iter().zip(values) {
-        if *value == W::zero() {
+    for (j, entry) in log.iter().enumerate() {
+        if values[j] == W::zero() {
             out[n] = *entry;
             n += 1;
         }
