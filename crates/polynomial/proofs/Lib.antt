@@ -1,2 +1,3 @@
 -- What is proved of the values beside their contracts.
 pub mod Blocks
+pub mod Evaluations
