@@ -2,3 +2,4 @@
 pub mod Blocks
 pub mod Evaluations
 pub mod Wrong
+pub mod OneReductionGuards

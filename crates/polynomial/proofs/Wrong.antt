@@ -11,7 +11,7 @@ use denote.Builtin.{u16, u32}
 use Rattle.std.specs.Prelude.{Result, Ok, Err}
 use Rattle.numbers.specs.Table.{every}
 use Rattle.lent.specs.declared.refusal.Refusal.{Refusal}
-use Rattle.lent.specs.Refusals.{refusal_or_none, refusal_numbered, answered}
+use Rattle.lent.specs.Refusals.{refusal_or_none, refusal_numbered}
 use Rattle.modint.specs.declared.Code.{Code}
 use Rattle.modint.specs.declared.Residue.{Residue}
 use Rattle.modint.proofs.Blocks.{Word, word16, word32, Passed, passing, Numbers, AtBoth}
