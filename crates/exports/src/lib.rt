@@ -1,0 +1,6 @@
+// The calls of the sketch and of the field over words and bytes that are lent, at any width of code. Every call takes any input.
+#![tactic(auto)]
+
+pub mod field;
+mod layout;
+mod words;
