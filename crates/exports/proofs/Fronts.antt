@@ -1,16 +1,34 @@
 -- What the tests of words, one after the other, tell of the rule.
 -- Assumes nothing.
-use Rattle.std.proofs.Common.{◌≡◌, ℕ, ◌<◌, Bool, true, false, cond, ◌&&◌, Option, Some, None, List, length, get_or, take, drop, refl, sym, ap, ◌∙◌}
+use Rattle.std.proofs.Common.{◌≡◌, ℕ, ◌+◌, ◌-◌, ◌%◌, ◌≤◌, ◌<◌, ◌⊎◌, inl, inr, Bool, true, false, cond, ◌&&◌, ◌++◌, Option, Some, None, List, length, get_or, take, drop, refl, sym, ap, ap₂, ◌∙◌, arith}
+use Rattle.std.proofs.Math.Nat.{mod-eq_of_lt}
+use Rattle.rules.specs.Kind.{Kind, counts}
+use Rattle.rules.specs.Field.{difference}
 use Rattle.rules.specs.Sketch.{last_fits}
-use Rattle.rules.specs.Words.{count_in, last_in, last_shaped, last_said, words_fit}
+use Rattle.rules.specs.Words.{head_words, count_in, last_in, last_shaped, last_said, words_fit}
+use borrow.Rule.Slice.PartMut.{put_mid}
+use Rattle.modint.specs.declared.Residue.{Residue}
 use Rattle.modint.specs.Width.{Width}
-use Rattle.modint.proofs.Width.{nums_at, nums_take, nums_drop}
+use Rattle.modint.specs.Answers.{val, wrap}
+use Rattle.modint.proofs.Width.{nums_at, nums_take, nums_drop, nums_append}
 use Rattle.exports.specs.Heads.{word_of, said_last, head_in}
 
 -- Three tests, and the last two of them together.
 pub together : (a b c : Bool) → a && b && c ≡ a && (b && c)
 together true b c = refl
 together false b c = refl
+
+-- Few words stand before the sums.
+pub few_before : (K : Kind) → head_words K ≤ 5
+few_before K = by_words K.count_words K.one_or_two
+  where
+    by_words : (n : ℕ) → (n ≡ 1) ⊎ (n ≡ 2) → 3 + n ≤ 5
+    by_words n (inl e) = omega (arith, e)
+    by_words n (inr e) = omega (arith, e)
+
+-- The wrapped difference of two counts.
+pub less_counts : {a b n m : ℕ} → a ≡ n → b ≡ m → m < counts → (a + (counts - b)) % counts ≡ difference counts n m
+less_counts {a} {b} {n} {m} ea eb l = rw (ea, eb, mod-eq_of_lt l)
 
 module _ {W : Type 0} (w : Width W) where
   -- The number of a word that is there.
@@ -21,6 +39,19 @@ module _ {W : Type 0} (w : Width W) where
   -- The numbers of a part of words.
   pub part : (words : List W) {h k m n : ℕ} → h ≡ k → m ≡ n → w.nums (take m (drop h words)) ≡ take n (drop k (w.nums words))
   part words {h} {k} {m} {n} eh em = nums_take w m (drop h words) ∙ ap (take m) (nums_drop w h words) ∙ rw (eh, em)
+
+  -- Words over a part of words have their numbers over the part.
+  pub put_back : (words over : List W) {h k : ℕ} (m : ℕ) → h ≡ k → w.nums (put_mid h m words over) ≡ put_mid k m (w.nums words) (w.nums over)
+  put_back words over {h} {k} m e =
+      let rest = drop m (drop h words) in
+      let behind : w.nums rest ≡ drop m (drop h (w.nums words)) = nums_drop w m (drop h words) ∙ ap (drop m) (nums_drop w h words) in
+      nums_append w (take h words) (over ++ rest)
+      ∙ ap₂ (λ (x y : List ℕ). x ++ y) (nums_take w h words) (nums_append w over rest ∙ ap (λ (y : List ℕ). w.nums over ++ y) behind)
+      ∙ ap (λ (i : ℕ). put_mid i m (w.nums words) (w.nums over)) e
+
+  -- The number of a residue with a number.
+  pub residue_number : {r : Residue W} {n : ℕ} → r ≡ wrap w n → val w r ≡ n
+  residue_number {r} {n} e = ap (val w) e ∙ w.num_of n
 
   -- What an option holds, or none.
   abbrev inner : Option (Option W) → Option W

@@ -2,5 +2,6 @@
 #![tactic(auto)]
 
 pub mod field;
-mod layout;
+pub mod layout;
+pub mod power_sum;
 mod words;
