@@ -2,3 +2,5 @@
 #![tactic(auto)]
 
 pub mod coefficients;
+pub mod evaluator;
+pub mod one_reduction;
