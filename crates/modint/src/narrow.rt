@@ -60,11 +60,9 @@ impl Word for u16 {
 
     ghost small = { Prim.search rules };
 
-<<<<<<< HEAD
     ghost few = { Prim.search rules };
-=======
+
     ghost small_residue = { Prim.search rules };
->>>>>>> 448b3bbb2930475067b4f4fe1ab319a8b75d2896
 
     fn zero() -> u16 {
         0

@@ -73,10 +73,8 @@ pub trait Word: Copy + PartialEq {
     // A word has no more bytes than a number of 64 bits, and a code no more than that.
     ghost small: { type_size Self.row ≤ 8 };
 
-<<<<<<< HEAD
     ghost few: { width.kind.code_bytes ≤ 8 };
-=======
+
     // Nor has a residue.
     ghost small_residue: { type_size (the_row Self.row) ≤ 8 };
->>>>>>> 448b3bbb2930475067b4f4fe1ab319a8b75d2896
 }
