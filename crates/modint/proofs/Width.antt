@@ -26,6 +26,10 @@ module _ {W : Type 0} (w : Width W) where
   pub nums_at : (l : List W) (k : ℕ) (d : W) (e : ℕ) → k < length l → get_or (w.nums l) k e ≡ w.num (get_or l k d)
   nums_at l k d e h = rw w.nums_are (get_or-map w.num l k d e h)
 
+  -- The number at a place is that of the word that was read there.
+  pub nums_item : (l : List W) (k : ℕ) {x : W} (e : ℕ) → x ≡ get_or l k x → k < length l → get_or (w.nums l) k e ≡ w.num x
+  nums_item l k {x} e is h = nums_at l k x e h ∙ ap w.num (sym is)
+
   -- A word put at a place puts its number there.
   pub nums_set : (l : List W) (k : ℕ) (x : W) → w.nums (set l k x) ≡ set (w.nums l) k (w.num x)
   nums_set l k x = rw (w.nums_are, w.nums_are l) (map-set w.num l k x)
