@@ -3,11 +3,12 @@ ghost use Rattle.std.specs.Prelude.{◌≡◌, true, map};
 ghost use Rattle.modint.specs.Answers.{val, wrap};
 ghost use Rattle.rules.specs.Sketch.{last_fits, in_range, last_without, placed};
 ghost use Rattle.rules.specs.Sums.{all_below, moved_by_powers};
-ghost use Rattle.power_sum.specs.Answers.{view, last_of, last_to, well_formed_of, new_of, insert_of, remove_of};
+ghost use Rattle.power_sum.specs.Answers.{view, last_of, last_to, well_formed_of, checked_of, new_of, insert_of, remove_of};
 
 use lent::refusal::Refusal;
 use modint::word::Word;
 use modint::{Code, PLACES, Residue};
+use sums::places;
 use std::alloc::AllocError;
 
 // The sums stand in the first `threshold` places; the further places hold 0. `last` is the last code that was inserted, or none.
@@ -118,5 +119,24 @@ impl<W: Word> PowerSumQuack<W> {
         ensures { result ≡ last_to W.width (view W.width self).last }
     {
         self.last
+    }
+
+    pub fn well_formed(self) -> bool
+        ensures { result ≡ well_formed_of W.width self }
+    {
+        in_range::<W>(self.threshold)
+            && places::places_fit(&self.numbers(), self.threshold)
+            && last_fits(self.last)
+    }
+
+    // The sketch where it is well formed, for the calls that refuse any other.
+    pub(crate) fn checked(self) -> Result<PowerSumQuack<W>, Refusal>
+        ensures { result ≡ checked_of W.width self }
+    {
+        if self.well_formed() {
+            Ok(self)
+        } else {
+            Err(Refusal::NotWellFormed)
+        }
     }
 }
