@@ -38,6 +38,11 @@ sketch_room a s =
     (up (option_align a) (up 4 (up (max a 1) 8 + 32 * residue_room a s) + 4) + option_room a s)
 
 module _ (t : Ty) (small : size t ≤ 8) where
+  -- As many words as there are places fit in memory.
+  pub words_fit : 32 * size t < 9223372036854775808
+  words_fit = omega (arith, small)
+
+  -- A residue takes at most 40 bytes, one that may be none 73.
   pub residue_few : residue_room (align t) (size t) ≤ 40
   residue_few =
       let start = up_few {e = 0} {n = 0} (align_pos t) (align_few t) (omega arith) in
@@ -48,8 +53,9 @@ module _ (t : Ty) (small : size t ≤ 8) where
       let start = up_few {a = max (align t) 1} {e = 1} {n = 1} (omega (arith, align_pos t)) (omega (arith, align_few t)) (omega arith) in
       up_few {n = 57} (omega (arith, align_pos t)) (omega (arith, align_few t)) (omega (arith, start, residue_few))
 
-  pub sketch_few : sketch_room (align t) (size t) < 9223372036854775808
-  sketch_few =
+  -- So does a sketch.
+  pub sketch_fits : sketch_room (align t) (size t) < 9223372036854775808
+  sketch_fits =
       let start = up_few {a = max (align t) 1} {e = 8} {n = 8} (omega (arith, align_pos t)) (omega (arith, align_few t)) (omega arith) in
       let count = up_few {a = 4} {e = up (max (align t) 1) 8 + 32 * residue_room (align t) (size t)} {n = 1304} (omega arith) (omega arith) (omega (arith, start, residue_few)) in
       let last = up_few {a = option_align (align t)} {e = up 4 (up (max (align t) 1) 8 + 32 * residue_room (align t) (size t)) + 4} {n = 1324}

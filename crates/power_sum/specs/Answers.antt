@@ -10,7 +10,7 @@ use Rattle.rules.specs.Sketch as rules
 use Rattle.rules.specs.Sketch.{Sketch, nothing, code, well_formed, placed}
 use Rattle.rules.specs.Calls as calls
 use Rattle.rules.specs.Calls.{Outcome, given, unless}
-use Rattle.lent.specs.Refusals.{answered}
+use Rattle.lent.specs.Refusals.{answered, changed}
 use Rattle.lent.specs.declared.refusal.Refusal.{Refusal}
 use Rattle.power_sum.specs.declared.power_sum.PowerSumQuack.{PowerSumQuack}
 
@@ -41,9 +41,9 @@ module _ {W : Type 0} (w : Width W) where
 
   -- ---- what each call answers
 
-  -- The struct itself where it is well formed.
-  abbrev pub checked_of : PowerSumQuack W → Result (PowerSumQuack W) Refusal
-  checked_of s = answered (λ (t : PowerSumQuack W). t) (unless (well_formed_of s) 12 (given s))
+  -- Whether a struct is refused as not well formed.
+  abbrev pub checked_of : PowerSumQuack W → Result (Unit {0}) Refusal
+  checked_of s = changed (unless (well_formed_of s) 12 (given s))
 
   -- What a call that makes a sketch answers: the sketch, or the refusal.
   abbrev pub sketch_answer : Outcome Sketch → Result (PowerSumQuack W) Refusal

@@ -2,3 +2,4 @@
 #![tactic(auto)]
 
 pub mod power_sum;
+pub mod subtract;

@@ -129,12 +129,12 @@ impl<W: Word> PowerSumQuack<W> {
             && last_fits(self.last)
     }
 
-    // The sketch where it is well formed, for the calls that refuse any other.
-    pub(crate) fn checked(self) -> Result<PowerSumQuack<W>, Refusal>
+    // Refuses a sketch that is not well formed, for the calls that take no other.
+    pub(crate) fn checked(self) -> Result<(), Refusal>
         ensures { result ≡ checked_of W.width self }
     {
         if self.well_formed() {
-            Ok(self)
+            Ok(())
         } else {
             Err(Refusal::NotWellFormed)
         }
