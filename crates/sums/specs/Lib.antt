@@ -1,0 +1,2 @@
+-- What the loop over four sums at once makes of them.
+pub mod Chains
