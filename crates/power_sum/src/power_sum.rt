@@ -8,7 +8,7 @@ ghost use Rattle.power_sum.specs.Answers.{view, last_of, last_to, well_formed_of
 use lent::refusal::Refusal;
 use modint::word::Word;
 use modint::{Code, PLACES, Residue};
-use sums::places;
+use sums::{places, powers};
 use std::alloc::AllocError;
 
 // The sums stand in the first `threshold` places; the further places hold 0. `last` is the last code that was inserted, or none.
@@ -138,5 +138,35 @@ impl<W: Word> PowerSumQuack<W> {
         } else {
             Err(Refusal::NotWellFormed)
         }
+    }
+
+    // The places of a well-formed sketch once each sum has moved by its power of a residue.
+    fn shifted(self, x: Residue<W>, down: bool) -> [W; PLACES]
+        requires { well_formed_of W.width self ≡ true }
+        ensures { W.width.nums result
+            ≡ placed W.width.kind (moved_by_powers W.width.kind down (val W.width x) (view W.width self).sums) }
+    {
+        let mut sums = self.numbers();
+        powers::shift_by_powers(&mut sums[..self.threshold], x, down);
+        sums
+    }
+
+    pub fn insert(self, code: Code<W>) -> Result<PowerSumQuack<W>, Refusal>
+        ensures { result ≡ insert_of W.width self code }
+    {
+        self.checked()?;
+        let x = Residue::reduce(code);
+        let sums = self.shifted(x, false);
+        Ok(accepted(self.threshold, sums, self.count.wrapping_add(1), Some(x)))
+    }
+
+    pub fn remove(self, code: Code<W>) -> Result<PowerSumQuack<W>, Refusal>
+        ensures { result ≡ remove_of W.width self code }
+    {
+        self.checked()?;
+        let x = Residue::reduce(code);
+        let sums = self.shifted(x, true);
+        let last = last_without(self.last, x);
+        Ok(accepted(self.threshold, sums, self.count.wrapping_sub(1), last))
     }
 }
