@@ -31,6 +31,8 @@ impl Word for u16 {
 
     ghost small = { Prim.search rules };
 
+    ghost few = { Prim.search rules };
+
     fn zero() -> u16 {
         0
     }

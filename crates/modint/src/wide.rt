@@ -32,6 +32,8 @@ impl Word for u32 {
 
     ghost small = { Prim.search rules };
 
+    ghost few = { Prim.search rules };
+
     fn zero() -> u32 {
         0
     }

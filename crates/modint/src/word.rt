@@ -68,6 +68,8 @@ pub trait Word: Copy + PartialEq {
 
     ghost bytes: { CODE_BYTES ≡ width.kind.code_bytes };
 
-    // A word has no more bytes than a number of 64 bits.
+    // A word has no more bytes than a number of 64 bits, and a code no more than that.
     ghost small: { type_size Self.row ≤ 8 };
+
+    ghost few: { width.kind.code_bytes ≤ 8 };
 }
