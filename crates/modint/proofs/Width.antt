@@ -1,7 +1,8 @@
 -- The numbers of a list of words, part by part: what is done to the words is done to their numbers. Over any width.
 -- Assumes nothing.
-use Rattle.std.proofs.Common.{ℕ, zero, suc, ◌<◌, ◌≡◌, refl, sym, ap, ◌∙◌, List, [], ◌∷◌, ◌++◌, length, map, take, drop}
+use Rattle.std.proofs.Common.{ℕ, zero, suc, ◌<◌, ◌≡◌, refl, sym, ap, ap₂, ◌∙◌, List, [], ◌∷◌, ◌++◌, length, map, take, drop}
 use Rattle.std.proofs.lemmas.List.{length-map, take-map, drop-map, map-set, get_or-map, map-append}
+use borrow.Rule.Slice.PartMut.{put_mid}
 use lib.ListN.{get_or, set, replicate}
 use Rattle.modint.specs.Width.{Width}
 
@@ -45,6 +46,13 @@ module _ {W : Type 0} (w : Width W) where
   -- Words behind words have the numbers of both.
   pub nums_append : (l m : List W) → w.nums (l ++ m) ≡ w.nums l ++ w.nums m
   nums_append l m = w.nums_are (l ++ m) ∙ map-append w.num l m ∙ sym (ap (λ (z : List ℕ). z ++ w.nums m) (w.nums_are l) ∙ ap (λ (z : List ℕ). map w.num l ++ z) (w.nums_are m))
+
+  -- Words written over a part of others put their numbers over that part.
+  pub nums_put_mid : (i k : ℕ) (l part : List W) → w.nums (put_mid i k l part) ≡ put_mid i k (w.nums l) (w.nums part)
+  nums_put_mid i k l part =
+      nums_append (take i l) (part ++ drop k (drop i l))
+      ∙ ap₂ (λ (a b : List ℕ). a ++ b) (nums_take i l)
+      (nums_append part (drop k (drop i l)) ∙ ap (λ (z : List ℕ). w.nums part ++ z) (nums_drop k (drop i l) ∙ ap (drop k) (nums_drop i l)))
 
   -- Equal words have equal numbers.
   pub nums_same : (n : ℕ) (x : W) → w.nums (replicate n x) ≡ replicate n (w.num x)

@@ -2,3 +2,4 @@
 #![tactic(auto)]
 
 pub mod coefficients;
+pub mod evaluator;

@@ -1,0 +1,2 @@
+-- What is proved of the values beside their contracts.
+pub mod Blocks

@@ -1,0 +1,2 @@
+-- The answer of an evaluation.
+pub mod Answers
