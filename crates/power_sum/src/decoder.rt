@@ -6,13 +6,15 @@ ghost use Rattle.power_sum.specs.Answers.{coefficients_of, decode_of};
 
 use crate::power_sum::PowerSumQuack;
 use lent::refusal::Refusal;
+use modint::PLACES;
 use modint::word::Word;
-use polynomial::coefficients;
+use polynomial::{coefficients, evaluator};
 
 impl<W: Word> PowerSumQuack<W> {
     pub fn to_coeffs(self, coeffs: &mut [W]) -> Result<usize, Refusal>
         ensures answer { result ≡ listed (coefficients_of W.width self (length coeffs.old)) }
-        ensures buffer { W.width.nums coeffs.new ≡ written (coefficients_of W.width self (length coeffs.old)) (W.width.nums coeffs.old) }
+        ensures buffer { W.width.nums coeffs.new
+            ≡ written (coefficients_of W.width self (length coeffs.old)) (W.width.nums coeffs.old) }
     {
         self.checked()?;
         let n = self.count as usize;
@@ -25,5 +27,18 @@ impl<W: Word> PowerSumQuack<W> {
         let sums = self.numbers();
         coefficients::put_coefficients(&sums[..self.threshold], &mut coeffs[..n]);
         Ok(n)
+    }
+
+    pub fn decode_with_log(self, log: &[W], out: &mut [W]) -> Result<usize, Refusal>
+        ensures answer { result ≡ listed (decode_of W.width self (W.width.nums log.now) (length out.old)) }
+        ensures buffer { W.width.nums out.new
+            ≡ written (decode_of W.width self (W.width.nums log.now) (length out.old)) (W.width.nums out.old) }
+    {
+        let mut coeffs = [W::zero(); PLACES];
+        let n = self.to_coeffs(&mut coeffs)?;
+        if out.len() < log.len() {
+            return Err(Refusal::NoRoom);
+        }
+        Ok(evaluator::put_roots(&coeffs[..n], log, out))
     }
 }

@@ -3,6 +3,7 @@
 
 pub mod decoder;
 pub mod in_place;
+pub mod packet;
 pub mod power_sum;
 pub mod subtract;
 pub mod surplus;

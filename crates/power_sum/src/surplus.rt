@@ -22,4 +22,23 @@ impl<W: Word> PowerSumQuack<W> {
         self.checked()?;
         PowerSumQuack::new(self.threshold)?.sub(self)
     }
+
+    pub fn decode_surplus_with_log(self, got: &[W], out: &mut [W]) -> Result<usize, Refusal>
+        ensures answer { result ≡ listed (decode_surplus_of W.width self (W.width.nums got.now) (length out.old)) }
+        ensures buffer { W.width.nums out.new
+            ≡ written (decode_surplus_of W.width self (W.width.nums got.now) (length out.old)) (W.width.nums out.old) }
+    {
+        self.checked()?;
+        let surplus = lent::below_zero(self.signed_count()) as usize;
+        if self.threshold < surplus {
+            return Err(Refusal::TooMany);
+        }
+        if out.len() < got.len() {
+            return Err(Refusal::NoRoom);
+        }
+        if surplus == 0 {
+            return Ok(0);
+        }
+        self.negate()?.decode_with_log(got, out)
+    }
 }
