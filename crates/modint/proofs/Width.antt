@@ -33,7 +33,7 @@ module _ {W : Type 0} (w : Width W) where
 
   -- A word put at a place puts its number there.
   pub nums_set : (l : List W) (k : ℕ) (x : W) → w.nums (set l k x) ≡ set (w.nums l) k (w.num x)
-  nums_set l k x = rw (w.nums_are, w.nums_are l) (map-set w.num l k x)
+  nums_set l k x = w.nums_are (set l k x) ∙ map-set w.num l k x ∙ sym (ap (λ (m : List ℕ). set m k (w.num x)) (w.nums_are l))
 
   -- The first words have the first numbers.
   pub nums_take : (n : ℕ) (l : List W) → w.nums (take n l) ≡ take n (w.nums l)
@@ -45,7 +45,9 @@ module _ {W : Type 0} (w : Width W) where
 
   -- Words behind words have the numbers of both.
   pub nums_append : (l m : List W) → w.nums (l ++ m) ≡ w.nums l ++ w.nums m
-  nums_append l m = w.nums_are (l ++ m) ∙ map-append w.num l m ∙ sym (ap (λ (z : List ℕ). z ++ w.nums m) (w.nums_are l) ∙ ap (λ (z : List ℕ). map w.num l ++ z) (w.nums_are m))
+  nums_append l m =
+      w.nums_are (l ++ m) ∙ map-append w.num l m
+      ∙ sym (ap (λ (z : List ℕ). z ++ w.nums m) (w.nums_are l) ∙ ap (λ (z : List ℕ). map w.num l ++ z) (w.nums_are m))
 
   -- Words written over a part of others put their numbers over that part.
   pub nums_put_mid : (i k : ℕ) (l part : List W) → w.nums (put_mid i k l part) ≡ put_mid i k (w.nums l) (w.nums part)

@@ -3,3 +3,4 @@
 
 pub mod coefficients;
 pub mod evaluator;
+pub mod one_reduction;

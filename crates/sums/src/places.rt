@@ -24,13 +24,12 @@ pub fn clear<W: Word>(places: &mut [W])
     }
 }
 
-// The differences of the sums that both have, over the front of lent places.
+// The differences of the sums that both have, over the front of lent places. By the place, since what a loop over `iter_mut().zip(..)` wrote is not known.
 pub fn put_differences<W: Word>(places: &mut [W], sums: &[W], others: &[W])
     ensures { W.width.nums places.new
         ≡ copied (W.width.nums places.old) (differences W.width.kind (W.width.nums sums.now) (W.width.nums others.now)) }
 {
     let n = places.len().min(sums.len()).min(others.len());
-    // By an index: what a loop over `iter_mut` beside other iterators wrote is not known after it.
     for k in 0..n {
         places[k] = sums[k].minus(others[k]);
     }

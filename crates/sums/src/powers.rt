@@ -68,8 +68,8 @@ fn first_sum<W: Word>(sums: &mut [W], x: W, down: bool) -> Reached<W>
     Reached { place: 1, power: y }
 }
 
-// Four sums at a time move, as long as there are four: each power is the one four places before times the fourth power. The place is counted by hand, so
-// that the four stay side by side in one turn.
+// Four sums at a time move, as long as there are four: each power is the one four places before times the fourth power. The place is counted by hand, since
+// what a loop over `chunks_mut` wrote is not known after it.
 fn by_fours<W: Word>(sums: &mut [W], x: W, down: bool) -> Reached<W>
     requires { 4 ≤ length sums.old }
     ensures { Reaches W.width.kind down (W.width.num x) (W.width.nums sums.old) (W.width.nums sums.new) result.place (W.width.num result.power) }
@@ -97,7 +97,7 @@ fn by_fours<W: Word>(sums: &mut [W], x: W, down: bool) -> Reached<W>
     }
 }
 
-// The further sums move one by one: each power is the one before times x.
+// The further sums move one by one: each power is the one before times x. By the place, since what a loop over `iter_mut().skip(..)` wrote is not known.
 fn one_by_one<W: Word>(sums: &mut [W], from: Reached<W>, x: W)
     ensures { (down : Bool) (before : List ℕ) → Reaches W.width.kind down (W.width.num x) before (W.width.nums sums.old) from.place (W.width.num from.power)
         → W.width.nums sums.new ≡ moved_by_powers W.width.kind down (W.width.num x) before }

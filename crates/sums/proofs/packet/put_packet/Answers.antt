@@ -16,6 +16,7 @@ longer : (b left n : ℕ) → 0 < b → left / b < n → left < n * b
 longer b left n some few =
     omega (arith, div-add-mod' left b, mod-lt left {m = b} some, mul-le-mul_right {m = suc (left / b)} {n = n} b few)
 
+-- Either test says that the packet is longer than the buffer.
 short : (g : Over) (c : Joined-then-room-at g) → let w = g.W.Word.width in
     fitting (packet w.kind c.args.count (val w c.args.last) (w.nums c.args.sums.now)) (length c.args.buf.now) ≡ refused 5
 short g c =

@@ -59,8 +59,8 @@ module _ (g : Over) (c : After-put_numbers g) where
       let codes = bytes count_bytes c.args.count ++ bytes b x in
       let last = subst (λ (a : ℕ). Front a codes before coded) (sym at_is) last_put in
       let behind = drop c.sums_at-at.result coded in
-      let put = c.put_numbers.ensures
-      ∙ ap (λ (n : ℕ). all_bytes b sums ++ drop (n * b) (take (length coded - c.sums_at-at.result) behind)) (sym (nums_length g.W.Word.width c.args.sums.now)) in
+      let many = sym (nums_length g.W.Word.width c.args.sums.now) in
+      let put = c.put_numbers.ensures ∙ ap (λ (n : ℕ). all_bytes b sums ++ drop (n * b) (take (length coded - c.sums_at-at.result) behind)) many in
       subst (λ (a : ℕ). Front (a + length sums * b) (codes ++ all_bytes b sums) before written) at_is
       (front_more (all_bytes b sums) last (all_bytes_length b sums) room put)
 

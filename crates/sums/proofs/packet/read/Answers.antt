@@ -32,7 +32,8 @@ module _ (g : Over) (c : After-sums_at g) where
   as_many : c.in_ok-threshold.threshold ≡ sums_in g.W.Word.width.kind (length c.args.buf.now)
   unfolding sketch_in
   as_many =
-      let said : ◌≡◌ {A = Result ℕ Refusal} (Ok c.in_ok-threshold.threshold) (answered (λ s. s.threshold) (given (sketch_in g.W.Word.width.kind c.args.buf.now))) =
+      let there = sketch_in g.W.Word.width.kind c.args.buf.now in
+      let said : ◌≡◌ {A = Result ℕ Refusal} (Ok c.in_ok-threshold.threshold) (answered (λ s. s.threshold) (given there)) =
       c.in_ok-threshold.ensures ∙ ap (answered (λ s. s.threshold)) reads.says in
       cc
 
@@ -50,7 +51,6 @@ pub put_sums-requires : goal.put_sums-requires
 put_sums-requires g c =
     let k = g.W.Word.width.kind in
     let buf = c.args.buf.now in
-    let t = c.in_ok-threshold.threshold in
     let e = (goal.at.put_sums-requires g c).After-sums_at in
     let bytes = ap (λ (n : ℕ). n * k.code_bytes) (as_many g e) in
     rw (places g e, c.sums_at.ensures, all_from (sums_at k) buf)

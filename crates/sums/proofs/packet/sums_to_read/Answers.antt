@@ -65,4 +65,5 @@ returns g c =
     let k = g.W.Word.width.kind in
     let b = (goal.at.returns g c).After-sums_below in
     let room : sums_in k (length c.args.buf.now) ≤ c.args.places = rw (← c.sums_in-threshold.ensures) c.if-places-threshold.false in
-    rw (read_given k c.args.buf.now c.args.places (long g b) (some g b) (few g b) (sym (below g b) ∙ c.if-not-sums_below.false) room, c.sums_in-threshold.ensures)
+    let given = read_given k c.args.buf.now c.args.places (long g b) (some g b) (few g b) (sym (below g b) ∙ c.if-not-sums_below.false) room in
+    rw (given, c.sums_in-threshold.ensures)

@@ -35,4 +35,7 @@ pub returns : goal.returns
 returns g c =
     let w = g.W.Word.width in
     let i = c.loop-k.invariant in
-    rw (nums_length w c.args.places.now, differences_length w.kind (w.nums c.args.sums.now) (w.nums c.args.others.now), ← i.1) (copying_done {l = differences w.kind (w.nums c.args.sums.now) (w.nums c.args.others.now)} i.0 c.loop-k-test.false)
+    let sums = w.nums c.args.sums.now in
+    let others = w.nums c.args.others.now in
+    rw (nums_length w c.args.places.now, differences_length w.kind sums others, ← i.1)
+    (copying_done {l = differences w.kind sums others} i.0 c.loop-k-test.false)

@@ -51,6 +51,7 @@ returns g c =
     record {
       some = omega (arith, i.2);
       raising =
-          rw long (i.0 _ (rw c.raise_four.ensures (chains_move w.kind (begun g begins) (raising_start w.kind (omega (arith, long))) (omega (arith, c.requires)))));
+          rw long (i.0 _ (rw c.raise_four.ensures
+          (chains_move w.kind (begun g begins) (raising_start w.kind (omega (arith, long))) (omega (arith, c.requires)))));
       last = rw here at i.1.fourth;
     }
