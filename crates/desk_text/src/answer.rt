@@ -1,4 +1,5 @@
-// The end of the input: the log or the got codes are decoded, and the answer's text is written.
+// The end of the input: the log or the got codes are decoded, and the answer's text is written. Lists stand in arrays of a fixed size and go to lent ones,
+// since there is no heap.
 ghost use Rattle.std.specs.Prelude.{◌≡◌, length, IfOk, MatchOption, take, true, false};
 ghost use Rattle.lent.specs.Refusals.{answered, listed};
 ghost use Rattle.rules.specs.Kind.{kind32};
@@ -6,7 +7,7 @@ ghost use Rattle.rules.specs.Calls.{written, fitting};
 ghost use Rattle.power_sum32.specs.Answers.{built, signed_count_of};
 ghost use Rattle.desk_rules.specs.Text.{desk_answer};
 ghost use Rattle.desk_text.specs.Writer.{told, Within};
-ghost use Rattle.desk_text.specs.Answer.{counted_of, difference_of, listed_of, told_by, ended_by, claims, finish_of};
+ghost use Rattle.desk_text.specs.Answer.{counted_of, difference_of, listed_of, told_by, ended_by, claims, in_bounds, finish_of};
 
 use crate::writer;
 use crate::writer::Report;
@@ -49,59 +50,6 @@ fn counted(answer: Number) -> Result<usize, Refusal>
     }
 }
 
-// What is missing of the log, or where the count is below zero the surplus among the got codes, at the front of a lent list.
-fn list_found(
-    sketch: PowerSumQuackU32,
-    log: &[u32],
-    got: &[u32],
-    found: &mut [u32],
-) -> Result<usize, Refusal>
-    ensures answer { result ≡ listed (listed_of (signed_count_of sketch) sketch log.now got.now (length found.old)) }
-    ensures list { found.new
-        ≡ written (listed_of (signed_count_of sketch) sketch log.now got.now (length found.old)) found.old }
-{
-    if sketch.signed_count() < 0 {
-        counted(sketch.decode_surplus_with_log(got, found))
-    } else {
-        counted(sketch.decode_with_log(log, found))
-    }
-}
-
-// What the sketches of good lines tell, with the codes of the log lines and of the got lines.
-fn decide<'a>(
-    desk: Desk,
-    log: &[u32],
-    got: &[u32],
-    found: &'a mut [u32; MOST_LINES],
-) -> Result<Report<'a>, Refusal>
-    ensures { told result ≡ told_by (difference_of desk) log.now got.now }
-{
-    let lacking = difference(desk)?;
-    let many = list_found(lacking, log, got, found)?;
-    Ok(Report {
-        threshold: lacking.threshold,
-        count: lacking.signed_count(),
-        found: &found[..many],
-    })
-}
-
-// What an input comes to: an earlier refusal stands, and an input without a line or with a line begun is refused.
-fn outcome<'a>(
-    reading: Reading,
-    log: &[u32],
-    got: &[u32],
-    found: &'a mut [u32; MOST_LINES],
-) -> Result<Report<'a>, Refusal>
-    ensures { told result ≡ ended_by reading log.now got.now }
-{
-    let Reading { desk, line } = reading;
-    match (desk.phase, line) {
-        (Phase::Stopped(refusal), _) => Err(refusal),
-        (Phase::Logs | Phase::Gots, Line::Fresh) => decide(desk, log, got, found),
-        _ => Err(Refusal::BadLine),
-    }
-}
-
 // The codes of so many lines, at the front of a lent list that has a place for each line that may come.
 fn claimed(list: &[u32], lines: usize) -> Option<&[u32]>
     ensures { MatchOption result (claims lines list.now ≡ false)
@@ -113,6 +61,74 @@ fn claimed(list: &[u32], lines: usize) -> Option<&[u32]>
     Some(&list[..lines])
 }
 
+// The codes of the log lines and of the got lines.
+#[derive(Clone, Copy)]
+struct Codes<'a> {
+    log: &'a [u32],
+    got: &'a [u32],
+}
+
+impl<'a> Codes<'a> {
+    // Those that a desk claims of the lists that it was lent.
+    fn of(desk: Desk, log: &'a [u32], got: &'a [u32]) -> Option<Codes<'a>>
+        ensures { MatchOption result (in_bounds desk log.now got.now ≡ false)
+            (λ codes. (in_bounds desk log.now got.now ≡ true)
+            × ((codes.log.now ≡ take desk.entries log.now) × (codes.got.now ≡ take desk.gots got.now))) }
+    {
+        Some(Codes {
+            log: claimed(log, desk.entries)?,
+            got: claimed(got, desk.gots)?,
+        })
+    }
+
+    // What is missing of the log, or where the count is below zero the surplus among the got codes, at the front of a lent list.
+    fn list(self, sketch: PowerSumQuackU32, found: &mut [u32]) -> Result<usize, Refusal>
+        ensures answer { result ≡ listed (listed_of (signed_count_of sketch) sketch
+            self.entry.log.now self.entry.got.now (length found.old)) }
+        ensures list { found.new ≡ written (listed_of (signed_count_of sketch) sketch
+            self.entry.log.now self.entry.got.now (length found.old)) found.old }
+    {
+        if sketch.signed_count() < 0 {
+            counted(sketch.decode_surplus_with_log(self.got, found))
+        } else {
+            counted(sketch.decode_with_log(self.log, found))
+        }
+    }
+}
+
+// What the sketches of good lines tell.
+fn decide<'a>(
+    desk: Desk,
+    codes: Codes,
+    found: &'a mut [u32; MOST_LINES],
+) -> Result<Report<'a>, Refusal>
+    ensures { told result ≡ told_by (difference_of desk) codes.entry.log.now codes.entry.got.now }
+{
+    let lacking = difference(desk)?;
+    let many = codes.list(lacking, found)?;
+    Ok(Report {
+        threshold: lacking.threshold,
+        count: lacking.signed_count(),
+        found: &found[..many],
+    })
+}
+
+// What an input comes to: an earlier refusal stands, and an input without a line or with a line begun is refused.
+fn outcome<'a>(
+    reading: Reading,
+    codes: Codes,
+    found: &'a mut [u32; MOST_LINES],
+) -> Result<Report<'a>, Refusal>
+    ensures { told result ≡ ended_by reading codes.entry.log.now codes.entry.got.now }
+{
+    let Reading { desk, line } = reading;
+    match (desk.phase, line) {
+        (Phase::Stopped(refusal), _) => Err(refusal),
+        (Phase::Logs | Phase::Gots, Line::Fresh) => decide(desk, codes, found),
+        _ => Err(Refusal::BadLine),
+    }
+}
+
 // The answer, once all bytes are fed: its text goes to the front of the lent buffer. The log and the got codes are those that the bytes were fed with.
 #[tactic(auto, unfolding(crate::specs::Answer::finish_of, crate::specs::Answer::outcome_of))]
 pub fn finish(reading: Reading, log: &[u32], got: &[u32], out: &mut [u8]) -> Result<usize, Refusal>
@@ -120,14 +136,11 @@ pub fn finish(reading: Reading, log: &[u32], got: &[u32], out: &mut [u8]) -> Res
     ensures text { out.new ≡ written (finish_of reading log.now got.now (length out.old)) out.old }
     ensures within { IfOk result (λ n. Within n out.new) }
 {
-    let (Some(log), Some(got)) = (
-        claimed(log, reading.desk.entries),
-        claimed(got, reading.desk.gots),
-    ) else {
+    let Some(codes) = Codes::of(reading.desk, log, got) else {
         return Err(Refusal::NoRoom);
     };
     let mut found = [0; MOST_LINES];
-    writer::write(out, outcome(reading, log, got, &mut found))
+    writer::write(out, outcome(reading, codes, &mut found))
 }
 
 // The answer to a whole input.

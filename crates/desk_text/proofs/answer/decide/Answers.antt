@@ -16,5 +16,5 @@ returns-in_err-many c =
     let e : c.from_residual-in_err-many.result ≡ Err c.in_err-many.field-0.0 = search rules in
     let places : length c.args.found.now ≡ most_lines = search rules in
     rw e
-    (told_refused (difference_of c.args.desk) c.args.log.now c.args.got.now c.difference.ensures c.in_ok-lacking.was
-    (rw places at c.list_found.ensures.answer) c.in_err-many.was)
+    (told_refused (difference_of c.args.desk) c.args.codes.log.now c.args.codes.got.now c.difference.ensures c.in_ok-lacking.was
+    (rw places at c.list.ensures.answer) c.in_err-many.was)
