@@ -22,12 +22,12 @@ use Rattle.rules.proofs.WellFormed.{fresh_well_formed, insert_well_formed, in_ra
 use Rattle.desk_rules.proofs.Desk as rules
 use Rattle.desk_rules.proofs.Desk.{State, state_after}
 use Rattle.power_sum32.specs.declared.power_sum.Answer.{Answer}
-use Rattle.power_sum32.specs.Answers.{built, answered, insert_of}
+use Rattle.desk_reader.specs.Sketches.{built, answered, insert_of}
 use Rattle.lent.specs.declared.refusal.Refusal.TheVariants.{TooManyLines}
 use Rattle.lent.specs.Refusals as refusals
 use Rattle.lent.specs.Refusals.{number_of, refusal_numbered}
 use Rattle.std.specs.Result.{result_unwrap_or}
-use Rattle.power_sum32.proofs.Struct.{view_built, built_well_formed}
+use Rattle.power_sum.proofs.Struct.{view_built, built_well_formed}
 use Rattle.desk_reader.specs.declared.bytes.Key.TheVariants.{Threshold, Log, Got}
 use Rattle.desk_reader.specs.declared.bytes.Line.{Line}
 use Rattle.desk_reader.specs.declared.bytes.Line.TheVariants.{Fresh, Word, Value, Bad}

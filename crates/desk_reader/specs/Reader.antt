@@ -2,9 +2,10 @@
 -- Assumes nothing.
 use Rattle.std.specs.Prelude.{ℕ, ◌+◌, ◌-◌, ◌*◌, Bool, cond, ◌&&◌, eqb, leb, ltb, length, get_or, set, Result, Ok, Err}
 use mathlib.Core.List.{List, foldl}
-use Rattle.modint32.specs.declared.Code.{Code}
-use Rattle.power_sum32.specs.declared.power_sum.PowerSumQuackU32.{PowerSumQuackU32}
-use Rattle.power_sum32.specs.Answers.{empty, built, insert_of}
+use Rattle.modint.specs.declared.Code.{Code}
+use Rattle.desk_reader.specs.Sketches.{Quack}
+use Rattle.desk_reader.specs.Sketches.{empty, new_of, insert_of}
+use Rattle.std.specs.Result.{result_unwrap_or}
 use Rattle.rules.specs.Kind.{kind32}
 use Rattle.rules.specs.Calls as calls
 use Rattle.lent.specs.declared.refusal.Refusal.{Refusal}
@@ -69,26 +70,22 @@ empty_desk p = record { phase = p; entries = 0; gots = 0; sent = empty; arrived 
 abbrev pub bad_line : Desk → Desk
 bad_line d = by_phase d.phase (empty_desk (Stopped BadLine)) (empty_desk (Stopped BadLine)) (empty_desk (Stopped BadLine)) d
 
--- What making a sketch answers.
-abbrev pub fresh_of : ℕ → Result PowerSumQuackU32 Refusal
-fresh_of T = answered built (calls.make kind32 T)
-
 -- The desk after a threshold line, by what making a sketch answers.
-abbrev pub started_desk : Result PowerSumQuackU32 Refusal → Desk
+abbrev pub started_desk : Result Quack Refusal → Desk
 started_desk (Ok fresh) = record { phase = Logs; entries = 0; gots = 0; sent = fresh; arrived = fresh }
 started_desk (Err refusal) = empty_desk (Stopped refusal)
 
 -- A threshold line: allowed as the first.
 abbrev pub threshold_line : Desk → ℕ → Desk
-threshold_line d T = by_phase d.phase (started_desk (fresh_of T)) (bad_line d) (bad_line d) (bad_line d)
+threshold_line d T = by_phase d.phase (started_desk (new_of T)) (bad_line d) (bad_line d) (bad_line d)
 
 -- A code of this number.
-abbrev pub coded : ℕ → Code
+abbrev pub coded : ℕ → Code ℕ
 coded c = record { 0 = c }
 
 -- The desk with one log code more.
 abbrev pub log_desk : Desk → ℕ → Desk
-log_desk d c = record { phase = Logs; entries = d.entries + 1; gots = d.gots; sent = (insert_of d.sent (coded c)).sketch; arrived = d.arrived }
+log_desk d c = record { phase = Logs; entries = d.entries + 1; gots = d.gots; sent = result_unwrap_or (insert_of d.sent (coded c)) d.sent; arrived = d.arrived }
 
 -- A log line: allowed before the got lines, and refused where there are as many as there may be already.
 abbrev pub log_line : Desk → ℕ → Desk
@@ -100,7 +97,7 @@ stored_log d c log = by_phase d.phase log (cond (ltb d.entries most_lines) (set 
 
 -- The desk with one got code more.
 abbrev pub got_desk : Desk → ℕ → Desk
-got_desk d c = record { phase = Gots; entries = d.entries; gots = d.gots + 1; sent = d.sent; arrived = (insert_of d.arrived (coded c)).sketch }
+got_desk d c = record { phase = Gots; entries = d.entries; gots = d.gots + 1; sent = d.sent; arrived = result_unwrap_or (insert_of d.arrived (coded c)) d.arrived }
 
 -- A got code where got lines are allowed: refused where there are as many as there may be already.
 abbrev pub kept_desk : Desk → ℕ → Desk

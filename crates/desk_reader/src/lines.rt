@@ -2,12 +2,13 @@
 ghost use Rattle.std.specs.Prelude.{◌≡◌, ◌≤◌, ◌<◌, length};
 ghost use Rattle.desk_rules.specs.Desk.{most_lines};
 ghost use Rattle.desk_reader.specs.declared.lines.Phase.TheVariants.{Stopped};
-ghost use Rattle.desk_reader.specs.Reader.{fresh_of, started_desk, empty_desk, bad_line, log_desk, got_desk, take_line, taken_log, taken_got};
+ghost use Rattle.desk_reader.specs.Sketches.{new_of};
+ghost use Rattle.desk_reader.specs.Reader.{started_desk, empty_desk, bad_line, log_desk, got_desk, take_line, taken_log, taken_got};
 
 use crate::bytes::{Key, Line};
 use lent::refusal::Refusal;
-use modint32::Code;
-use power_sum32::power_sum::PowerSumQuackU32;
+use modint::Code;
+use power_sum::power_sum::PowerSumQuackU32;
 
 // How many log lines an input may have, and how many got lines; and how many places the arrays lent for their codes have.
 pub const MOST_LINES: usize = 8192;
@@ -33,26 +34,12 @@ pub struct Desk {
     pub arrived: PowerSumQuackU32,
 }
 
-// The fresh sketch of a threshold, by the number that `new` answers: a threshold out of range is its only refusal.
-#[tactic(auto, unfolding(power_sum32::specs::Answers::new_of, rules::specs::Calls::make))]
-fn fresh(threshold: u32) -> Result<PowerSumQuackU32, Refusal>
-    ensures { result ≡ fresh_of threshold }
-{
-    let made = PowerSumQuackU32::new(threshold as usize);
-    if made.refusal == 0 {
-        Ok(made.sketch)
-    } else {
-        Err(Refusal::ThresholdOutOfRange)
-    }
-}
-
 impl Desk {
     // A desk without sketches: before the first line, or after a refusal.
-    #[tactic(auto, unfolding(power_sum32::specs::Answers::new_of, rules::specs::Calls::make))]
     pub(crate) fn empty(phase: Phase) -> Desk
         ensures { result ≡ empty_desk phase }
     {
-        let none = PowerSumQuackU32::new(0).sketch;
+        let none = PowerSumQuackU32::blank();
         Desk {
             phase,
             entries: 0,
@@ -71,9 +58,9 @@ impl Desk {
 
     // After the threshold line.
     fn started(threshold: u32) -> Desk
-        ensures { result ≡ started_desk (fresh_of threshold) }
+        ensures { result ≡ started_desk (new_of threshold) }
     {
-        match fresh(threshold) {
+        match PowerSumQuackU32::new(threshold as usize) {
             Ok(fresh) => Desk {
                 phase: Phase::Logs,
                 entries: 0,
@@ -92,7 +79,7 @@ impl Desk {
         Desk {
             phase: Phase::Logs,
             entries: self.entries + 1,
-            sent: self.sent.insert(Code(code)).sketch,
+            sent: self.sent.insert(Code(code)).unwrap_or(self.sent),
             ..self
         }
     }
@@ -104,7 +91,7 @@ impl Desk {
         Desk {
             phase: Phase::Gots,
             gots: self.gots + 1,
-            arrived: self.arrived.insert(Code(code)).sketch,
+            arrived: self.arrived.insert(Code(code)).unwrap_or(self.arrived),
             ..self
         }
     }

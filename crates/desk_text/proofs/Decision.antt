@@ -12,8 +12,8 @@ use borrow.Author.Tests.{ne_eqb}
 use Rattle.lent.specs.declared.refusal.Refusal.{Refusal}
 use Rattle.lent.specs.Answers.{numbered}
 use Rattle.lent.specs.Refusals.{number_of, refusal_numbered, answered, listed, refusal_or_none}
-use Rattle.power_sum32.specs.declared.power_sum.PowerSumQuackU32.{PowerSumQuackU32}
-use Rattle.power_sum32.specs.Answers.{view, built, signed_count_of, well_formed_of, decode_of, decode_surplus_of}
+use Rattle.desk_reader.specs.Sketches.{Quack}
+use Rattle.desk_reader.specs.Sketches.{view, built, signed_count_of, well_formed_of, decode_of, decode_surplus_of}
 use Rattle.desk_rules.specs.Desk.{most_lines, reported}
 use Rattle.desk_reader.specs.declared.lines.Desk.{Desk}
 use Rattle.desk_text.specs.Answer.{counted_of, difference_of, listed_of, told_of, told_by}
@@ -44,7 +44,7 @@ difference_named d =
     (subtract kind32 (view d.sent) (view d.arrived))
 
 -- So is the listing.
-pub listed_named : (z : ℤ) (s : PowerSumQuackU32) (l g : List ℕ) (places : ℕ) → Named (listed_of z s l g places)
+pub listed_named : (z : ℤ) (s : Quack) (l g : List ℕ) (places : ℕ) → Named (listed_of z s l g places)
 unfolding decode_of decode_surplus_of calls.decode calls.decode_surplus
 listed_named (pos n) s l g places =
     list_tests_named (well_formed_of s) (leb (view s).count (view s).threshold) (leb (length l) places) (decode kind32 (view s) l)
@@ -64,18 +64,18 @@ counted_listed (refused (suc n)) named = rw (ne_eqb (suc n) 0 (λ z. omega arith
 counted_listed (given l) named = refl
 
 -- Where the subtraction is not refused, a refusal of the listing is what is told.
-pub told_refused : (o : Outcome Sketch) (l g : List ℕ) {r : Result PowerSumQuackU32 Refusal} {s : PowerSumQuackU32} {p : Result ℕ Refusal} {e : Refusal}
+pub told_refused : (o : Outcome Sketch) (l g : List ℕ) {r : Result Quack Refusal} {s : Quack} {p : Result ℕ Refusal} {e : Refusal}
     → r ≡ answered built o → r ≡ Ok s → p ≡ listed (listed_of (signed_count_of s) s l g most_lines) → p ≡ Err e → refused (number_of e) ≡ told_by o l g
 told_refused (refused n) l g er es ep ee = absurd (true≢false (ap is_ok (sym es ∙ er)))
 told_refused (given d) l g {s = s} er es ep ee =
-    let is : s ≡ built d = ap (λ (r : Result PowerSumQuackU32 Refusal). result_unwrap_or r s) (sym es ∙ er) in
+    let is : s ≡ built d = ap (λ (r : Result Quack Refusal). result_unwrap_or r s) (sym es ∙ er) in
     let z = signed_count_of s in
     let refusal = refused_by length (listed_of z s l g most_lines) (listed_named z s l g most_lines) ep ee in
-    sym (ap (reported s.threshold z) refusal) ∙ ap (λ (x : PowerSumQuackU32). told_of x l g) is
+    sym (ap (reported s.threshold z) refusal) ∙ ap (λ (x : Quack). told_of x l g) is
 
 -- ---- what is listed, by the sign of the count
 
-module _ (s : PowerSumQuackU32) (l g : List ℕ) (places : ℕ) where
+module _ (s : Quack) (l g : List ℕ) (places : ℕ) where
   -- With a count below zero the surplus among the got codes.
   pub lists_surplus : (z : ℤ) → z <ℤ pos 0 → listed_of z s l g places ≡ decode_surplus_of s g places
   lists_surplus (pos n) l = absurd (grind (arith, l.lt))

@@ -21,8 +21,8 @@ use Rattle.desk_rules.specs.Desk.{most_lines, Seen, unbegun, logs, gots, stopped
 use Rattle.desk_rules.specs.Text.{printed, desk_answer}
 use Rattle.rules.proofs.WellFormed.{subtract_well_formed}
 use Rattle.desk_rules.proofs.Desk.{state_after, read_after}
-use Rattle.power_sum32.specs.Answers.{built, decode_of, decode_surplus_of}
-use Rattle.power_sum32.proofs.Struct.{view_built, built_well_formed}
+use Rattle.desk_reader.specs.Sketches.{built, decode_of, decode_surplus_of}
+use Rattle.power_sum.proofs.Struct.{view_built, built_well_formed}
 use Rattle.desk_reader.specs.declared.bytes.Key.TheVariants.{Threshold, Log, Got}
 use Rattle.desk_reader.specs.declared.bytes.Line.{Line}
 use Rattle.desk_reader.specs.declared.bytes.Line.TheVariants.{Fresh, Word, Value, Bad}

@@ -1,8 +1,8 @@
 -- What the end of the input comes to. Definitions only.
 -- Assumes nothing.
 use Rattle.std.specs.Prelude.{ℕ, Bool, true, false, cond, ◌&&◌, List, ℤ, pos, negsuc, eqb, leb, length, take, Result, Ok, Err}
-use Rattle.power_sum32.specs.declared.power_sum.PowerSumQuackU32.{PowerSumQuackU32}
-use Rattle.power_sum32.specs.Answers.{view, built, well_formed_of, signed_count_of, decode_of, decode_surplus_of}
+use Rattle.desk_reader.specs.Sketches.{Quack}
+use Rattle.desk_reader.specs.Sketches.{view, built, well_formed_of, signed_count_of, decode_of, decode_surplus_of}
 use Rattle.rules.specs.Kind.{kind32}
 use Rattle.rules.specs.Sketch.{Sketch}
 use Rattle.rules.specs.Calls as calls
@@ -36,12 +36,12 @@ difference_of d = calls.sub_assign kind32 (well_formed_of d.sent && well_formed_
 
 -- What is listed with a signed count, for a lent list of so many places: of one below zero the surplus among the got codes, of any other what is missing of
 -- the log.
-abbrev pub listed_of : ℤ → PowerSumQuackU32 → List ℕ → List ℕ → ℕ → Outcome (List ℕ)
+abbrev pub listed_of : ℤ → Quack → List ℕ → List ℕ → ℕ → Outcome (List ℕ)
 listed_of (pos n) s l g places = decode_of s l places
 listed_of (negsuc n) s l g places = decode_surplus_of s g places
 
 -- What a sketch tells of a log and of got codes: the refusal of the decoding, or a report.
-abbrev pub told_of : PowerSumQuackU32 → List ℕ → List ℕ → Outcome Report
+abbrev pub told_of : Quack → List ℕ → List ℕ → Outcome Report
 told_of s l g = reported s.threshold (signed_count_of s) (listed_of (signed_count_of s) s l g most_lines)
 
 -- The same by what the subtraction comes to: its refusal, or what its sketch tells.

@@ -4,7 +4,7 @@ ghost use Rattle.std.specs.Prelude.{◌≡◌, length, IfOk, MatchOption, take, 
 ghost use Rattle.lent.specs.Refusals.{answered, listed};
 ghost use Rattle.rules.specs.Kind.{kind32};
 ghost use Rattle.rules.specs.Calls.{written, fitting};
-ghost use Rattle.power_sum32.specs.Answers.{built, signed_count_of};
+ghost use Rattle.desk_reader.specs.Sketches.{built, signed_count_of};
 ghost use Rattle.desk_rules.specs.Text.{desk_answer};
 ghost use Rattle.desk_text.specs.Writer.{told, Within};
 ghost use Rattle.desk_text.specs.Answer.{counted_of, difference_of, listed_of, told_by, ended_by, claims, in_bounds, finish_of};
@@ -14,10 +14,10 @@ use crate::writer::Report;
 use desk_reader::{Desk, Line, MOST_LINES, Phase, Reading};
 use lent::Number;
 use lent::refusal::Refusal;
-use power_sum32::power_sum::PowerSumQuackU32;
+use power_sum::power_sum::PowerSumQuackU32;
 
 // The log lines' sketch less that of the got lines.
-#[tactic(auto, unfolding(crate::specs::Answer::difference_of, power_sum32::specs::Answers::sub_assign_of, rules::specs::Calls::sub_assign))]
+#[tactic(auto, unfolding(crate::specs::Answer::difference_of, power_sum::specs::Answers::sub_assign_of, rules::specs::Calls::sub_assign))]
 fn difference(desk: Desk) -> Result<PowerSumQuackU32, Refusal>
     ensures { result ≡ answered built (difference_of desk) }
 {

@@ -1,7 +1,7 @@
 -- Each refusal as it comes.
 use Rattle.std.proofs.Common.{rules, ◌≡◌, Err, length}
 use Rattle.desk_rules.specs.Desk.{most_lines}
-use Rattle.power_sum32.specs.Answers.{built}
+use Rattle.desk_reader.specs.Sketches.{built}
 use Rattle.desk_text.specs.Answer.{difference_of}
 use Rattle.desk_text.proofs.Decision.{difference_named, refused_by, told_refused}
 use Rattle.desk_text.proofs.answer.decide.Goals as goal

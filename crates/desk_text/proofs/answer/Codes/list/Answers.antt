@@ -1,7 +1,7 @@
 -- By the sign of the count.
 use Rattle.std.proofs.Common.{rules, sym, ap, ◌∙◌, length}
 use Rattle.lent.specs.Answers.{numbered}
-use Rattle.power_sum32.specs.Answers.{signed_count_of}
+use Rattle.desk_reader.specs.Sketches.{signed_count_of}
 use Rattle.desk_text.specs.Answer.{counted_of, listed_of}
 use Rattle.desk_text.proofs.Decision.{counted_listed, lists_surplus, lists_missing, listed_named}
 use Rattle.desk_text.proofs.answer.Codes.list.Goals as goal
