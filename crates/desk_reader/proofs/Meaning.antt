@@ -21,8 +21,11 @@ use Rattle.desk_rules.specs.Desk.{most_lines, Seen, unbegun, logs, gots, stopped
 use Rattle.rules.proofs.WellFormed.{fresh_well_formed, insert_well_formed, in_range_parts}
 use Rattle.desk_rules.proofs.Desk as rules
 use Rattle.desk_rules.proofs.Desk.{State, state_after}
-use Rattle.power_sum32.specs.declared.power_sum.Answer.{Answer}
-use Rattle.desk_reader.specs.Sketches.{built, answered, insert_of}
+use Rattle.std.specs.Prelude.{Result, Ok}
+use Rattle.modint.specs.Width.{width32}
+use Rattle.power_sum.specs.Answers as any
+use Rattle.desk_reader.specs.Sketches.{Quack, built, insert_of}
+use Rattle.lent.specs.declared.refusal.Refusal.{Refusal}
 use Rattle.lent.specs.declared.refusal.Refusal.TheVariants.{TooManyLines}
 use Rattle.lent.specs.Refusals as refusals
 use Rattle.lent.specs.Refusals.{number_of, refusal_numbered}
@@ -74,14 +77,16 @@ codes_more : (T : ℕ) (l : List ℕ) (c : ℕ) → codes T (l ++ (c ∷ [])) �
 codes_more T l c = foldl-append (sketch.insert kind32) (sketch.fresh T) l (c ∷ [])
 
 -- Insert on the struct of a well-formed sketch is the rule on the sketch.
-insert_built : (g : Sketch) (c : ℕ) → WellFormed kind32 g → insert_of (built g) (coded c) ≡ answered 0 (built (sketch.insert kind32 g c))
-unfolding insert_of calls.insert
-insert_built g c w = rw (built_well_formed g w, view_built g w)
+insert_built : (g : Sketch) (c : ℕ) → WellFormed kind32 g → insert_of (built g) (coded c) ≡ Ok (built (sketch.insert kind32 g c))
+unfolding any.insert_of calls.insert
+insert_built g c w = rw (built_well_formed width32 g w, view_built width32 g w)
 
 -- One code more, by the call.
-insert_more : (T : ℕ) (l : List ℕ) (c : ℕ) → InRange T → (insert_of (built (codes T l)) (coded c)).sketch ≡ built (codes T (l ++ (c ∷ [])))
+insert_more : (T : ℕ) (l : List ℕ) (c : ℕ) → InRange T
+    → result_unwrap_or (insert_of (built (codes T l)) (coded c)) (built (codes T l)) ≡ built (codes T (l ++ (c ∷ [])))
 insert_more T l c r =
-    ap (λ (a : Answer). a.sketch) (insert_built (codes T l) c (codes_well_formed T l r)) ∙ ap built (sym (codes_more T l c))
+    ap (λ (a : Result Quack Refusal). result_unwrap_or a (built (codes T l))) (insert_built (codes T l) c (codes_well_formed T l r))
+    ∙ ap built (sym (codes_more T l c))
 
 -- ---- where the reader stands
 
@@ -193,7 +198,7 @@ module _ (T c : ℕ) (l log got : List ℕ) (front : take (length l) log ≡ l) 
 -- A whole line does to the reader what it does to the rules.
 takes : (s : Seen) (l : Line) (log got : List ℕ) → Holds s (desk_of s) log got → most_lines ≤ length log → most_lines ≤ length got
     → Holds (next kind32 s (said l)) (take_line (desk_of s) l) (taken_log (desk_of s) l log) (taken_got (desk_of s) l got)
-unfolding next take_line taken_log taken_got calls.make
+unfolding next take_line taken_log taken_got any.new_of calls.make
 takes unbegun Fresh log got h room places = holds_stopped 9 log got refl
 takes unbegun (Word k at) log got h room places = holds_stopped 9 log got refl
 takes unbegun (Value Threshold v) log got h room places = holds_started v log got (in_range kind32 v) refl

@@ -1,15 +1,15 @@
 // The sketch: its parts, and how it is made, tested and changed.
 ghost use Rattle.std.specs.Prelude.{◌≡◌, true, map};
 ghost use Rattle.modint.specs.Answers.{val, wrap};
-ghost use Rattle.rules.specs.Sketch.{no_sketch, last_fits, in_range, last_without, placed};
+ghost use Rattle.rules.specs.Sketch.{last_fits, in_range, last_without, placed};
 ghost use Rattle.rules.specs.Sums.{all_below, moved_by_powers};
-ghost use Rattle.power_sum.specs.Answers.{view, built, last_of, last_to, well_formed_of, checked_of, new_of, insert_of, remove_of};
+ghost use Rattle.power_sum.specs.Answers.{view, last_of, last_to, well_formed_of, checked_of, new_of, insert_of, remove_of};
 
 use lent::refusal::Refusal;
 use modint::word::Word;
 use modint::{Code, PLACES, Residue};
-use sums::{places, powers};
 use std::alloc::AllocError;
+use sums::{places, powers};
 
 // The sums stand in the first `threshold` places; the further places hold 0. `last` is the last code that was inserted, or none.
 #[derive(Copy)]
@@ -48,7 +48,12 @@ fn last_fits<W: Word>(last: Option<Residue<W>>) -> bool
 fn last_without<W: Word>(last: Option<Residue<W>>, x: Residue<W>) -> Option<Residue<W>>
     ensures { result ≡ last_to W.width (last_without (last_of W.width last) (val W.width x)) }
 {
-    last.filter(|y| y.value() != x.value())
+    let y = last?;
+    if y.value() == x.value() {
+        None
+    } else {
+        Some(y)
+    }
 }
 
 // The residues of numbers.
@@ -101,13 +106,6 @@ impl<W: Word> PowerSumQuack<W> {
             return Err(Refusal::ThresholdOutOfRange);
         }
         Ok(accepted(threshold, [W::zero(); PLACES], 0, None))
-    }
-
-    // No sketch: the threshold 0, no sums and no last code. Every call refuses it as not well formed.
-    pub fn blank() -> PowerSumQuack<W>
-        ensures { result ≡ built W.width no_sketch }
-    {
-        accepted(0, [W::zero(); PLACES], 0, None)
     }
 
     pub fn threshold(self) -> usize
