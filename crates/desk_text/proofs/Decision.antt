@@ -10,13 +10,13 @@ use Rattle.rules.specs.Calls.{Outcome, refused, given, unless}
 use mathlib.Core.Bool.{true≢false}
 use borrow.Author.Tests.{ne_eqb}
 use Rattle.lent.specs.declared.refusal.Refusal.{Refusal}
-use Rattle.lent.specs.Answers.{numbered}
 use Rattle.lent.specs.Refusals.{number_of, refusal_numbered, answered, listed, refusal_or_none}
+use Rattle.power_sum.specs.Answers as any
 use Rattle.desk_reader.specs.Sketches.{Quack}
 use Rattle.desk_reader.specs.Sketches.{view, built, signed_count_of, well_formed_of, decode_of, decode_surplus_of}
 use Rattle.desk_rules.specs.Desk.{most_lines, reported}
 use Rattle.desk_reader.specs.declared.lines.Desk.{Desk}
-use Rattle.desk_text.specs.Answer.{counted_of, difference_of, listed_of, told_of, told_by}
+use Rattle.desk_text.specs.Answer.{difference_of, listed_of, told_of, told_by}
 
 -- An outcome whose refusal, if it is one, stands in the table.
 abbrev pub Named : {A : Type 0} → Outcome A → Type 0
@@ -45,7 +45,7 @@ difference_named d =
 
 -- So is the listing.
 pub listed_named : (z : ℤ) (s : Quack) (l g : List ℕ) (places : ℕ) → Named (listed_of z s l g places)
-unfolding decode_of decode_surplus_of calls.decode calls.decode_surplus
+unfolding any.decode_of any.decode_surplus_of calls.decode calls.decode_surplus
 listed_named (pos n) s l g places =
     list_tests_named (well_formed_of s) (leb (view s).count (view s).threshold) (leb (length l) places) (decode kind32 (view s) l)
 listed_named (negsuc n) s l g places =
@@ -56,12 +56,6 @@ pub refused_by : {A B : Type 0} (f : A → B) (o : Outcome A) → Named o → {r
     → o ≡ refused (number_of e)
 refused_by f (refused n) named er ee = ap refused (sym named ∙ ap refusal_or_none (sym er ∙ ee))
 refused_by f (given a) named er ee = absurd (true≢false (ap is_ok (sym er ∙ ee)))
-
--- What is answered by a number and a refusal is answered by its name.
-pub counted_listed : (o : Outcome (List ℕ)) → Named o → counted_of (numbered o) ≡ listed o
-counted_listed (refused zero) named = absurd (omega (arith, named))
-counted_listed (refused (suc n)) named = rw (ne_eqb (suc n) 0 (λ z. omega arith))
-counted_listed (given l) named = refl
 
 -- Where the subtraction is not refused, a refusal of the listing is what is told.
 pub told_refused : (o : Outcome Sketch) (l g : List ℕ) {r : Result Quack Refusal} {s : Quack} {p : Result ℕ Refusal} {e : Refusal}

@@ -22,6 +22,8 @@ use Rattle.desk_rules.specs.Text.{printed, desk_answer}
 use Rattle.rules.proofs.WellFormed.{subtract_well_formed}
 use Rattle.desk_rules.proofs.Desk.{state_after, read_after}
 use Rattle.desk_reader.specs.Sketches.{built, decode_of, decode_surplus_of}
+use Rattle.modint.specs.Width.{width32}
+use Rattle.power_sum.specs.Answers as any
 use Rattle.power_sum.proofs.Struct.{view_built, built_well_formed}
 use Rattle.desk_reader.specs.declared.bytes.Key.TheVariants.{Threshold, Log, Got}
 use Rattle.desk_reader.specs.declared.bytes.Line.{Line}
@@ -69,18 +71,18 @@ bytes_begun l b (x ∷ bs) = bytes_begun (line_byte l b) x bs
 difference_built : (p : Phase) (n m : ℕ) (g o : Sketch) → WellFormed kind32 g → WellFormed kind32 o → g.threshold ≡ o.threshold
     → difference_of (record { phase = p; entries = n; gots = m; sent = built g; arrived = built o }) ≡ given (subtract kind32 g o)
 unfolding difference_of calls.sub_assign
-difference_built p n m g o w v e = rw (built_well_formed g w, built_well_formed o v, view_built g w, view_built o v, eq-eqb g.threshold o.threshold e)
+difference_built p n m g o w v e = rw (built_well_formed width32 g w, built_well_formed width32 o v, view_built width32 g w, view_built width32 o v, eq-eqb g.threshold o.threshold e)
 
 -- Decoding.
 decode_built : (g : Sketch) (log : List ℕ) (places : ℕ) → WellFormed kind32 g → decode_of (built g) log places ≡ calls.decode kind32 true g log places
-unfolding decode_of
-decode_built g log places w = rw (built_well_formed g w, view_built g w)
+unfolding any.decode_of
+decode_built g log places w = rw (built_well_formed width32 g w, view_built width32 g w)
 
 -- Decoding the surplus.
 surplus_built : (g : Sketch) (got : List ℕ) (places : ℕ) → WellFormed kind32 g
     → decode_surplus_of (built g) got places ≡ calls.decode_surplus kind32 true g got places
-unfolding decode_surplus_of
-surplus_built g got places w = rw (built_well_formed g w, view_built g w)
+unfolding any.decode_surplus_of
+surplus_built g got places w = rw (built_well_formed width32 g w, view_built width32 g w)
 
 -- ---- the end of the input
 

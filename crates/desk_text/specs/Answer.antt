@@ -26,10 +26,6 @@ is_fresh (Word k at) = false
 is_fresh (Value k v) = false
 is_fresh Bad = false
 
--- How many were written, or the refusal with the number that is answered.
-abbrev pub counted_of : Number → Result ℕ Refusal
-counted_of n = cond (eqb n.refusal 0) (Ok n.value) (Err (refusal_numbered n.refusal))
-
 -- The got lines' sketch is subtracted from the log lines'.
 unfoldable pub difference_of : Desk → Outcome Sketch
 difference_of d = calls.sub_assign kind32 (well_formed_of d.sent && well_formed_of d.arrived) (view d.sent) (view d.arrived)

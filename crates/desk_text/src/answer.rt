@@ -7,47 +7,20 @@ ghost use Rattle.rules.specs.Calls.{written, fitting};
 ghost use Rattle.desk_reader.specs.Sketches.{built, signed_count_of};
 ghost use Rattle.desk_rules.specs.Text.{desk_answer};
 ghost use Rattle.desk_text.specs.Writer.{told, Within};
-ghost use Rattle.desk_text.specs.Answer.{counted_of, difference_of, listed_of, told_by, ended_by, claims, in_bounds, finish_of};
+ghost use Rattle.desk_text.specs.Answer.{difference_of, listed_of, told_by, ended_by, claims, in_bounds, finish_of};
 
 use crate::writer;
 use crate::writer::Report;
 use desk_reader::{Desk, Line, MOST_LINES, Phase, Reading};
-use lent::Number;
 use lent::refusal::Refusal;
 use power_sum::power_sum::PowerSumQuackU32;
 
 // The log lines' sketch less that of the got lines.
-#[tactic(auto, unfolding(crate::specs::Answer::difference_of, power_sum::specs::Answers::sub_assign_of, rules::specs::Calls::sub_assign))]
+#[tactic(auto, unfolding(crate::specs::Answer::difference_of, power_sum::specs::Answers::sub_assign_of))]
 fn difference(desk: Desk) -> Result<PowerSumQuackU32, Refusal>
     ensures { result ≡ answered built (difference_of desk) }
 {
-    let answer = desk.sent.sub_assign(desk.arrived);
-    match answer.refusal {
-        0 => Ok(answer.sketch),
-        2 => Err(Refusal::ThresholdsDiffer),
-        _ => Err(Refusal::NotWellFormed),
-    }
-}
-
-// How many were written, or the refusal with the number that is answered.
-fn counted(answer: Number) -> Result<usize, Refusal>
-    ensures { result ≡ counted_of answer }
-{
-    match answer.refusal {
-        0 => Ok(answer.value),
-        1 => Err(Refusal::ThresholdOutOfRange),
-        2 => Err(Refusal::ThresholdsDiffer),
-        3 => Err(Refusal::NoLastCode),
-        4 => Err(Refusal::TooMany),
-        5 => Err(Refusal::NoRoom),
-        6 => Err(Refusal::PacketTooShort),
-        7 => Err(Refusal::SumsOutOfRange),
-        8 => Err(Refusal::NotBelowPrime),
-        9 => Err(Refusal::BadLine),
-        10 => Err(Refusal::TooManyLines),
-        11 => Err(Refusal::NoCoefficient),
-        _ => Err(Refusal::NotWellFormed),
-    }
+    desk.sent.sub_assign(desk.arrived)
 }
 
 // The codes of so many lines, at the front of a lent list that has a place for each line that may come.
@@ -89,9 +62,9 @@ impl<'a> Codes<'a> {
             self.entry.log.now self.entry.got.now (length found.old)) found.old }
     {
         if sketch.signed_count() < 0 {
-            counted(sketch.decode_surplus_with_log(self.got, found))
+            sketch.decode_surplus_with_log(self.got, found)
         } else {
-            counted(sketch.decode_with_log(self.log, found))
+            sketch.decode_with_log(self.log, found)
         }
     }
 }
