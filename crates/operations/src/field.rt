@@ -2,23 +2,25 @@
 use crate::answer;
 use crate::answer::Answer;
 use crate::operation::Operand;
-use crate::widths::{low_word, narrowed, word};
+use crate::widths::{MOST, Narrow, low_word, narrowed};
 use exports::{evaluator, field};
 use lent::refusal::Refusal;
 use modint::Residue;
+use modint::word::Word;
 
 // The value of coefficients, which stand behind the code, by a call.
 pub(crate) fn evaluated<W, F>(args: &[u32], call: F) -> Option<Answer>
 where
-    W: Operand,
+    W: Word + Narrow + Into<u32>,
     F: FnOnce(&[W], W) -> Result<Residue<W>, Refusal>,
     requires { F.IsAlwaysCallable call }
 {
     let [x, coeffs @ ..] = args else {
         return None;
     };
-    let coeffs = narrowed(coeffs, word)?;
-    match call(coeffs.as_slice(), low_word(*x)) {
+    let mut places = [W::zero(); MOST];
+    let coeffs = narrowed(coeffs, &mut places)?;
+    match call(coeffs, low_word(*x)) {
         Ok(value) => answer::numbers(&[0, value.value().into()]),
         Err(refusal) => answer::numbers(&[refusal.number(), 0]),
     }

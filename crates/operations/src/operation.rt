@@ -1,12 +1,13 @@
 // An operation of the list: its kind, its arguments, and the answers that are expected.
 use crate::answer::Answer;
 use crate::slots::Slots;
+use crate::widths::Narrow;
 use crate::{field, sketch};
 use exports::layout::Layout;
 use exports::one_reduction;
 
-// A word that the list has operations for: a number of a line can be one.
-pub trait Operand: Layout + Default + Into<u32> {
+// A word that the list has operations for.
+pub trait Operand: Layout + Narrow + Into<u32> {
     // The value with one reduction, which only 16-bit codes have.
     fn eval_precompute(args: &[u32]) -> Option<Answer>;
 }

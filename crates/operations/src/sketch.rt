@@ -3,7 +3,7 @@ use crate::answer;
 use crate::answer::Answer;
 use crate::operation::Operand;
 use crate::slots::{Slot, Slots};
-use crate::widths::{MOST, byte, low_byte, low_word, narrowed, word};
+use crate::widths::{MOST, low_byte, low_word, narrowed};
 use exports::{decoder, packet, power_sum, surplus};
 use lent::refusal::Refusal;
 
@@ -11,8 +11,9 @@ pub(crate) fn put<W: Operand>(args: &[u32], slots: &mut Slots<W>) -> Option<Answ
     let [slot, words @ ..] = args else {
         return None;
     };
-    let words = narrowed(words, word)?;
-    slots.slot_mut(*slot).put(words.as_slice())?;
+    let mut places = [W::zero(); MOST];
+    let words = narrowed(words, &mut places)?;
+    slots.slot_mut(*slot).put(words)?;
     answer::numbers(&[])
 }
 
@@ -116,10 +117,11 @@ where
     let [slot, room, fill, log @ ..] = args else {
         return None;
     };
-    let log = narrowed(log, word)?;
+    let mut entries = [W::zero(); MOST];
+    let log = narrowed(log, &mut entries)?;
     let mut places = [low_word(*fill); MOST];
     let buffer = places.get_mut(..*room as usize)?;
-    let listed = call(slots.slot(*slot).words(), log.as_slice(), &mut *buffer);
+    let listed = call(slots.slot(*slot).words(), log, &mut *buffer);
     answer::written(listed, buffer)
 }
 
@@ -172,8 +174,9 @@ pub(crate) fn deserialize<W: Operand>(args: &[u32], slots: &mut Slots<W>) -> Opt
     let [slot, bytes @ ..] = args else {
         return None;
     };
-    let bytes = narrowed(bytes, byte)?;
+    let mut places = [0u8; MOST];
+    let bytes = narrowed(bytes, &mut places)?;
     change(slots.slot_mut(*slot), |words| {
-        packet::deserialize(bytes.as_slice(), words)
+        packet::deserialize(bytes, words)
     })
 }

@@ -34,7 +34,10 @@ impl<W: Operand> Slot<W> {
     }
 
     pub(crate) fn words_mut(&mut self) -> &mut [W] {
-        &mut self.words[..self.length.min(LONGEST)]
+        let end = self.length.min(LONGEST);
+        let places = &mut self.words;
+        let all = &mut places[..];
+        &mut all[..end]
     }
 
     // Makes the slot a slice of these words, where there is room for them.

@@ -1,38 +1,45 @@
 // Numbers of the list taken to words and bytes.
-use arrayvec::ArrayVec;
 use modint::word::Word;
 
 // The most words or bytes that a line lends a call.
 pub(crate) const MOST: usize = 512;
 
-// Numbers as words or bytes. There are none where one has none, or where there are more than a line lends.
-pub(crate) fn narrowed<T, F>(numbers: &[u32], narrow: F) -> Option<ArrayVec<T, MOST>>
-where
-    T: Default + Drop,
-    F: Fn(u32) -> Option<T>,
-    requires { F.IsAlwaysCallable narrow }
-{
-    let mut narrowed = ArrayVec::new();
-    for number in numbers {
-        narrowed.try_push(narrow(*number)?).ok()?;
+// A word or a byte: numbers that are not too large are one.
+pub trait Narrow: Copy + Default {
+    fn narrow(number: u32) -> Option<Self>;
+}
+
+impl Narrow for u32 {
+    fn narrow(number: u32) -> Option<u32> {
+        Some(number)
     }
-    Some(narrowed)
+}
+
+impl Narrow for u16 {
+    fn narrow(number: u32) -> Option<u16> {
+        u16::try_from(number).ok()
+    }
+}
+
+impl Narrow for u8 {
+    fn narrow(number: u32) -> Option<u8> {
+        u8::try_from(number).ok()
+    }
+}
+
+// Numbers as words or bytes, at the front of lent places. There are none where a number is too large to be one, or where the places are fewer. An array is
+// lent, since an `ArrayVec` of any width's words would owe a proof of its size.
+pub(crate) fn narrowed<'a, T: Narrow>(numbers: &[u32], places: &'a mut [T]) -> Option<&'a [T]> {
+    let taken = places.get_mut(..numbers.len())?;
+    for (place, number) in taken.iter_mut().zip(numbers) {
+        *place = T::narrow(*number)?;
+    }
+    Some(taken)
 }
 
 // The word of a number's lowest bits.
 pub(crate) fn low_word<W: Word>(number: u32) -> W {
     W::low(u64::from(number))
-}
-
-// The word that a number is, where it is one.
-pub(crate) fn word<W: Word>(number: u32) -> Option<W> {
-    let word: W = low_word(number);
-    (word.number() == u64::from(number)).then_some(word)
-}
-
-// The byte that a number is, where it is one.
-pub(crate) fn byte(number: u32) -> Option<u8> {
-    u8::try_from(number).ok()
 }
 
 // The byte of a number's lowest bits. The further bits are cut off, which no `TryFrom` does.
