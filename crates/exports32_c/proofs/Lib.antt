@@ -1,0 +1,2 @@
+-- What is proved of the calls for C beside their contracts, a file for each matter.
+mod Values
