@@ -1,12 +1,13 @@
 -- The numbers of refusals and the refusals with these numbers; so the answer of a call and what C is handed tell the same.
 -- Assumes nothing.
-use Rattle.std.proofs.Common.{◌≡◌, ℕ, ◌≤◌, Bool, true, false, cond, eqb, refl, sym, ap, ◌∙◌, List, arith}
+use Rattle.std.proofs.Common.{Result, ◌≡◌, ℕ, ◌≤◌, Bool, true, false, cond, eqb, refl, sym, ap, ◌∙◌, List, arith}
 use Rattle.std.proofs.lemmas.Bool.{eqb-true, eq-eqb}
 use Rattle.rules.specs.Calls.{Outcome, refused, given, refusal_of}
 use Rattle.rules.proofs.Outcomes.{Numbered, in_table}
 use Rattle.lent.specs.declared.refusal.Refusal.{Refusal}
+use Rattle.lent.specs.declared.Number.{Number}
 use Rattle.lent.specs.Answers.{numbered}
-use Rattle.lent.specs.Refusals.{number_of, refusal_numbered, answered, listed, refusal_or_none, number_answer}
+use Rattle.lent.specs.Refusals.{number_of, refusal_numbered, answered, listed, changed, refusal_or_none, number_answer}
 
 -- One entry of the table, and those behind it.
 entry : (k n : ℕ) (r rest : Refusal) → number_of r ≡ k → ((n ≡ k → ⊥) → number_of rest ≡ n) → number_of (cond (eqb n k) r rest) ≡ n
@@ -22,12 +23,20 @@ number_back n some few =
     entry 1 n _ _ refl (λ a. entry 2 n _ _ refl (λ b. entry 3 n _ _ refl (λ c. entry 4 n _ _ refl (λ d. entry 5 n _ _ refl (λ e. entry 6 n _ _ refl (λ f.
     entry 7 n _ _ refl (λ g. entry 8 n _ _ refl (λ h. entry 9 n _ _ refl (λ i. entry 10 n _ _ refl (λ j. entry 11 n _ _ refl (λ k. omega arith)))))))))))
 
--- The number that C is handed for a refusal, or 0.
-pub refusal_back : {A B : Type 0} (f : A → B) (o : Outcome A) → Numbered o → refusal_or_none (answered f o) ≡ refusal_of o
+-- The number of an answer's refusal, or 0, is that of the rule's.
+refusal_back : {A B : Type 0} (f : A → B) (o : Outcome A) → Numbered o → refusal_or_none (answered f o) ≡ refusal_of o
 refusal_back f (refused n) h = number_back n (in_table n h).0 (in_table n h).1
 refusal_back f (given a) h = refl
 
--- What C is handed by a call that writes a list.
-pub number_back_listed : (o : Outcome (List ℕ)) → Numbered o → number_answer (listed o) ≡ numbered o
-number_back_listed (refused n) h = ap (λ (k : ℕ). record { refusal = k; value = 0 }) (number_back n (in_table n h).0 (in_table n h).1)
-number_back_listed (given l) h = refl
+-- How many an answer counts, or the number of its refusal, is what the rule comes to.
+listed_back : (o : Outcome (List ℕ)) → Numbered o → number_answer (listed o) ≡ numbered o
+listed_back (refused n) h = ap (λ (k : ℕ). record { refusal = k; value = 0 }) (number_back n (in_table n h).0 (in_table n h).1)
+listed_back (given l) h = refl
+
+-- What C is handed by a call that changes what it is lent.
+pub refusal_handed : {A : Type 0} (o : Outcome A) {r : Result (Unit {0}) Refusal} {n : ℕ} → Numbered o → r ≡ changed o → n ≡ refusal_or_none r → n ≡ refusal_of o
+refusal_handed o h er en = en ∙ ap (λ (r : Result (Unit {0}) Refusal). refusal_or_none r) er ∙ refusal_back _ o h
+
+-- And by one that writes a list.
+pub number_handed : (o : Outcome (List ℕ)) {r : Result ℕ Refusal} {n : Number} → Numbered o → r ≡ listed o → n ≡ number_answer r → n ≡ numbered o
+number_handed o h er en = en ∙ ap (λ (r : Result ℕ Refusal). number_answer r) er ∙ listed_back o h
