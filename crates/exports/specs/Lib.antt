@@ -1,0 +1,2 @@
+-- What stands at the front of the words of a sketch.
+pub mod Heads

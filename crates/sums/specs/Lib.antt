@@ -1,0 +1,3 @@
+-- The answer of a reading, and what the loop over four sums at once makes of them.
+pub mod Answers
+pub mod Chains
