@@ -67,7 +67,7 @@ impl<W: Word> From<Result<Residue<W>, Refusal>> for Evaluated<W> {
     }
 }
 
-// Each entry and the first coefficient.
+// Each entry and the first coefficient. By place, here and in a step: of what is written through a zip no proof learns.
 fn put_firsts<W: Word>(values: &mut [W], log: &[W], a: W)
     requires { length values.old ≡ length log.now }
     ensures { W.width.nums values.new ≡ map (λ (c : ℕ). plus W.width.kind c (W.width.num a)) (W.width.nums log.now) }

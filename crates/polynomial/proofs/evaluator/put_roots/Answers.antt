@@ -33,7 +33,8 @@ loop-block-preserved g c =
     let some : 0 < chunks_size c.next.new.self = omega (arith, size) in
     let block = c.in-Some.block.now in
     let rest = chunks_rest c.next.new.self in
-    (blocks_turn g.W.Word.width _ _ _ block rest c.put_block-n.new.out c.put_block-n.result i.0 step.1.0 c.put_block-n.ensures.listed c.put_block-n.ensures.few, size, some, tt)
+    let put = c.put_block-n in
+    (blocks_turn g.W.Word.width _ _ _ block rest put.new.out put.result i.0 step.1.0 put.ensures.listed put.ensures.few, size, some, tt)
 
 pub returns : goal.returns
 returns g c =

@@ -1,13 +1,14 @@
 -- The last j coefficients added up, and then two more, or one.
-use Rattle.std.proofs.Common.{ℕ, ◌≡◌, ◌+◌, ◌-◌, ◌*◌, ◌%◌, ◌^◌, ◌<◌, ◌++◌, List, [], ◌∷◌, None, length, get_or, take, refl, sym, ◌∙◌, ap, arith, length-append, append_assoc}
-use Rattle.std.proofs.Math.Nat.{mod-eq_of_lt}
-use Rattle.std.proofs.Math.Seq.{get_or-take, take-take}
+use Rattle.std.proofs.Common.{ℕ, ◌≡◌, ◌+◌, ◌-◌, ◌*◌, ◌%◌, ◌^◌, ◌<◌, ◌++◌, List, [], ◌∷◌, ◌∙◌}
+use Rattle.std.proofs.Common.{None, length, get_or, take, refl, sym, ap, arith, length-append, append_assoc}
+use Rattle.std.proofs.Math.Nat.{mod-eq_of_lt, one-mul, pow-zero, pow-suc}
+use Rattle.std.proofs.Math.Seq.{get_or-take, take-take, take_all}
 use Rattle.std.proofs.lemmas.List.{take_at, get_or-append-add, get_or_append_left}
 use Rattle.std.proofs.lemmas.Option.{slice_get_within, get_or_from_slice_get}
 use Rattle.std.specs.List.{slice_get}
 use Rattle.std.specs.Slice.Exact.{rchunks_exact_rest, rchunks_exact_size}
 use Rattle.rules.specs.Kind.{kind16}
-use Rattle.rules.proofs.OneReduction.{SumSoFar, power_after, sum_turn, sum_done}
+use Rattle.rules.proofs.OneReduction.{SumSoFar, sum_start, power_after, sum_turn, sum_done}
 use Rattle.polynomial.proofs.one_reduction.unreduced.Goals.{in-Some-first, in_default}
 use Rattle.polynomial.proofs.one_reduction.unreduced.Goals as goal
 
@@ -33,6 +34,38 @@ module _ (cs single rest after pair : List ℕ) (j : ℕ) (whole : single ++ res
   left : (n : ℕ) → n ≡ length (single ++ after) → single ++ after ≡ take n cs
   left n en =
       sym (take_at (single ++ after) pair n (sym en)) ∙ ap (take n) parts ∙ take-take n (length cs - j) cs (omega (arith, before_pair, en))
+
+-- The first power of a residue is the residue.
+first_power : (x : ℕ) → x < kind16.modulus → x ≡ x ^ 1 % kind16.modulus
+first_power x below =
+    let once : x ^ 1 ≡ x = pow-suc x 0 ∙ ap (λ (z : ℕ). z * x) (pow-zero x) ∙ one-mul x in
+    sym (ap (λ (z : ℕ). z % kind16.modulus) once ∙ mod-eq_of_lt below)
+
+pub loop-pair-init : goal.loop-pair-init
+loop-pair-init c =
+    let cs = c.args.coeffs.now in
+    let x = c.args.x in
+    let single = c.remainder-single.result.now in
+    let pairs = c.rchunks_exact-pairs.result in
+    let rest = rchunks_exact_rest c.into_iter-pair-iterator.result in
+    let same = c.into_iter-pair-iterator.ensures.into_iter_gives in
+    let parts : cs ≡ single ++ rest = rw (same, c.remainder-single.ensures) c.rchunks_exact-pairs.ensures.parts in
+    let long = ap length parts ∙ length-append single rest in
+    let none : length cs - length single - length rest ≡ 0 = omega (arith, long) in
+    let whole : single ++ rest ≡ take (length cs - 0) cs = sym parts ∙ sym (take_all (length cs - 0) cs (omega arith)) in
+    let few : length single ≡ length cs % 2 = ap length c.remainder-single.ensures ∙ c.rchunks_exact-pairs.ensures.remainder_len in
+    let size : rchunks_exact_size c.into_iter-pair-iterator.result ≡ 2 = rw same c.rchunks_exact-pairs.ensures.size in
+    let some : 0 < rchunks_exact_size c.into_iter-pair-iterator.result = omega (arith, size) in (
+      rw none (sum_start kind16 cs x refl),
+      rw none (first_power x c.requires.1),
+      rw none whole,
+      omega (arith, none, long),
+      omega (arith, few),
+      omega (arith, few, long),
+      size,
+      some,
+      tt,
+    )
 
 pub loop-pair-preserved : goal.loop-pair-preserved
 loop-pair-preserved c =
