@@ -8,8 +8,8 @@ ghost use Rattle.power_sum.specs.Answers.{view, last_of, last_to, well_formed_of
 use lent::refusal::Refusal;
 use modint::word::Word;
 use modint::{Code, PLACES, Residue};
-use sums::{places, powers};
 use std::alloc::AllocError;
+use sums::{places, powers};
 
 // The sums stand in the first `threshold` places; the further places hold 0. `last` is the last code that was inserted, or none.
 #[derive(Copy)]
@@ -48,7 +48,8 @@ fn last_fits<W: Word>(last: Option<Residue<W>>) -> bool
 fn last_without<W: Word>(last: Option<Residue<W>>, x: Residue<W>) -> Option<Residue<W>>
     ensures { result ≡ last_to W.width (last_without (last_of W.width last) (val W.width x)) }
 {
-    last.filter(|y| y.value() != x.value())
+    let y = last?;
+    if y.value() == x.value() { None } else { last }
 }
 
 // The residues of numbers.
