@@ -4,3 +4,6 @@ pub mod Sizes
 pub mod Checked
 pub mod Filled
 pub mod Negated
+pub mod Determined
+pub mod InPlace
+pub mod Promise

@@ -59,8 +59,8 @@ module _ (t : Ty) (small : size t ≤ 8) where
       let start = up_few {a = max (align t) 1} {e = 8} {n = 8} (omega (arith, align_pos t)) (omega (arith, align_few t)) (omega arith) in
       let count = up_few {a = 4} {e = up (max (align t) 1) 8 + 32 * residue_room (align t) (size t)} {n = 1304} (omega arith) (omega arith) (omega (arith, start, residue_few)) in
       let last = up_few {a = option_align (align t)} {e = up 4 (up (max (align t) 1) 8 + 32 * residue_room (align t) (size t)) + 4} {n = 1324}
-          (omega (arith, align_pos t)) (omega (arith, align_few t)) (omega (arith, count)) in
+      (omega (arith, align_pos t)) (omega (arith, align_few t)) (omega (arith, count)) in
       let whole = up_few {a = max 8 (max (max (align t) 1) (max 4 (max (option_align (align t)) 1)))}
-          {e = up (option_align (align t)) (up 4 (up (max (align t) 1) 8 + 32 * residue_room (align t) (size t)) + 4) + option_room (align t) (size t)}
-          {n = 1413} (omega arith) (omega (arith, align_few t)) (omega (arith, last, option_few)) in
+      {e = up (option_align (align t)) (up 4 (up (max (align t) 1) 8 + 32 * residue_room (align t) (size t)) + 4) + option_room (align t) (size t)}
+      {n = 1413} (omega arith) (omega (arith, align_few t)) (omega (arith, last, option_few)) in
       omega (arith, whole)

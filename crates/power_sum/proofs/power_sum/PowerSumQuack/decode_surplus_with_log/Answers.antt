@@ -84,7 +84,7 @@ returns g c =
     let few : surplus_in (view w s) ≤ s.threshold = omega (arith, is, c.if-self-surplus.false) in
     let enough : length got ≤ room = rw (nums_length w c.args.got.now) c.if-out-got.false in
     let lists = negated_decodes w s (search rules) ok counted c.negate.ensures c.in_ok-negate.was got room
-        ∙ sym (surplus_negated w.kind (view w s) got room ok few enough (λ z. c.if-surplus-eq0.false (is ∙ z)) counted) in
+    ∙ sym (surplus_negated w.kind (view w s) got room ok few enough (λ z. c.if-surplus-eq0.false (is ∙ z)) counted) in
     record {
       answer = c.decode_with_log.ensures.answer ∙ ap listed lists;
       buffer = c.decode_with_log.ensures.buffer ∙ ap (λ (o : Outcome (List ℕ)). written o (w.nums c.args.out.now)) lists;

@@ -57,9 +57,13 @@ accepted-requires g c =
     let w = g.W.Word.width in
     let buf = c.args.buf.now in
     let said = c.read.ensures.answer in
-    let below = placed_below w.kind (sketch_in w.kind buf).sums (read_sums_below w.kind buf (sketch_in w.kind buf) (comes w buf said c.in_ok-head.was)) in
-    (words_fit (lone g.row.W.mir) g.met.W.Word.small, (sketch_fits (lone g.row.W.mir) g.met.W.Word.small,
-    rw (placing w buf said c.in_ok-head.was c.zero-sums.ensures c.read.ensures.sums) below))
+    let below = placed_below w.kind (sketch_in w.kind buf).sums (read_sums_below w.kind buf (sketch_in w.kind buf) (comes w buf said c.in_ok-head.was)) in (
+      words_fit (lone g.row.W.mir) g.met.W.Word.small,
+      (
+        sketch_fits (lone g.row.W.mir) g.met.W.Word.small,
+        rw (placing w buf said c.in_ok-head.was c.zero-sums.ensures c.read.ensures.sums) below,
+      ),
+    )
 
 pub returns : goal.returns
 unfolding read_of sketch_in

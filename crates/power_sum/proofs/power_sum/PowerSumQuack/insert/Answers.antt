@@ -21,9 +21,13 @@ accepted-requires g c =
     let w = g.W.Word.width in
     let s = view w c.args.self in
     let n = w.num c.args.code.0 in
-    let below = placed_below w.kind (insert w.kind s n).sums (inserted_below w.kind s n) in
-    (words_fit (lone g.row.W.mir) g.met.W.Word.small, (sketch_fits (lone g.row.W.mir) g.met.W.Word.small,
-    rw (c.shifted-sums.ensures, c.reduce-x.ensures, w.num_of (residue w.kind n)) below))
+    let below = placed_below w.kind (insert w.kind s n).sums (inserted_below w.kind s n) in (
+      words_fit (lone g.row.W.mir) g.met.W.Word.small,
+      (
+        sketch_fits (lone g.row.W.mir) g.met.W.Word.small,
+        rw (c.shifted-sums.ensures, c.reduce-x.ensures, w.num_of (residue w.kind n)) below,
+      ),
+    )
 
 pub returns : goal.returns
 unfolding insert_of calls.insert insert

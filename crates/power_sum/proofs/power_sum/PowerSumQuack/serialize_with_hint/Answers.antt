@@ -76,7 +76,7 @@ returns g c =
     let there = some_last s.last (sym c.ok_or.ensures.value ∙ c.in_ok-last.was) in
     let front = nums_take w n c.numbers-sums.result ∙ ap (take n) c.numbers-sums.ensures in
     let packs = ap (λ (l : List ℕ). fitting (packet w.kind s.count (val w c.in_ok-last.last) l) room) front
-        ∙ sym (with_code w s ok c.args.hint room there n c.min-n.ensures) in
+    ∙ sym (with_code w s ok c.args.hint room there n c.min-n.ensures) in
     record {
       answer = c.put_packet.ensures.answer ∙ ap listed packs;
       buffer = c.put_packet.ensures.buffer ∙ ap (λ (o : Outcome (List ℕ)). written o c.args.buf.now) packs;

@@ -53,7 +53,7 @@ accepted-requires g c =
     let s = c.args.self in
     let o = c.args.rhs in
     let now = changed w s o (search rules) (search rules) c.requires c.zero-sums.ensures c.min-threshold.ensures c.numbers-mine.ensures c.numbers-others.ensures
-        c.put_differences.ensures in
+    c.put_differences.ensures in
     let below = placed_below w.kind (subtract w.kind (view w s) (view w o)).sums (subtracted_below w.kind (view w s) (view w o)) in
     (words_fit (lone g.row.W.mir) g.met.W.Word.small, (sketch_fits (lone g.row.W.mir) g.met.W.Word.small, rw now below))
 
@@ -64,7 +64,7 @@ returns g c =
     let s = c.args.self in
     let o = c.args.rhs in
     let now = changed w s o (search rules) (search rules) c.requires c.zero-sums.ensures c.min-threshold.ensures c.numbers-mine.ensures c.numbers-others.ensures
-        c.put_differences.ensures in
+    c.put_differences.ensures in
     let counted : o.count < counts = search rules in
     let itself : o.count % counts ≡ o.count = mod-eq_of_lt counted in
     rw (c.accepted.ensures, now, c.min-threshold.ensures, itself)

@@ -61,8 +61,8 @@ returns g c =
     let many : length sums ≡ s.threshold = length-take-le s.threshold (map (val w) s.sums) (within w s (all ∙ sym w.places) ok refl) in
     let front = nums_take w s.threshold c.numbers-sums.result ∙ ap (take s.threshold) c.numbers-sums.ensures in
     let solved = coefficients_over_part w.kind sums (take s.count buf) s.count (length-take-le s.count buf (omega (arith, room, c.if-coeffs-n.false)))
-        (omega (arith, many, c.if-self-n.false)) (c.put_coefficients.ensures ∙ rw (front, nums_take w s.count c.args.coeffs.now)) in
+    (omega (arith, many, c.if-self-n.false)) (c.put_coefficients.ensures ∙ rw (front, nums_take w s.count c.args.coeffs.now)) in
     let r = listing buf (coefficients_given w.kind (view w s) ok c.if-self-n.false (length c.args.coeffs.now) c.if-coeffs-n.false)
-        (sym (coefficients_length w.kind sums s.count))
-        (nums_append w c.put_coefficients.new.coeffs (drop s.count c.args.coeffs.now) ∙ rw (solved, nums_drop w s.count c.args.coeffs.now)) in
+    (sym (coefficients_length w.kind sums s.count))
+    (nums_append w c.put_coefficients.new.coeffs (drop s.count c.args.coeffs.now) ∙ rw (solved, nums_drop w s.count c.args.coeffs.now)) in
     record { answer = r.0; buffer = r.1 }

@@ -14,7 +14,7 @@ returns-then-places_fit g c =
     let s = c.args.self in
     let both : c.if-in_range.value ≡ in_range w.kind s.threshold && every (place_fits w.kind s.threshold) 0 (map (val w) s.sums) =
     elim c.if-in_range.branch [
-      then-in_range t ↦ t.value-is ∙ t.places_fit.ensures ∙ rw (t.numbers.ensures, sym c.in_range.ensures ∙ t.if-in_range.true)
+      | then-in_range t ↦ t.value-is ∙ t.places_fit.ensures ∙ rw (t.numbers.ensures, sym c.in_range.ensures ∙ t.if-in_range.true)
       | else-in_range f ↦ f.value-is ∙ rw (sym c.in_range.ensures ∙ f.if-in_range.false) f.if-in_range.false
     ] in
     rw (sym both ∙ c.if-places_fit.true) c.last_fits.ensures
@@ -26,7 +26,7 @@ returns-else-places_fit g c =
     let s = c.args.self in
     let both : c.if-in_range.value ≡ in_range w.kind s.threshold && every (place_fits w.kind s.threshold) 0 (map (val w) s.sums) =
     elim c.if-in_range.branch [
-      then-in_range t ↦ t.value-is ∙ t.places_fit.ensures ∙ rw (t.numbers.ensures, sym c.in_range.ensures ∙ t.if-in_range.true)
+      | then-in_range t ↦ t.value-is ∙ t.places_fit.ensures ∙ rw (t.numbers.ensures, sym c.in_range.ensures ∙ t.if-in_range.true)
       | else-in_range f ↦ f.value-is ∙ rw (sym c.in_range.ensures ∙ f.if-in_range.false) f.if-in_range.false
     ] in
     rw (sym both ∙ c.if-places_fit.false) c.if-places_fit.false
