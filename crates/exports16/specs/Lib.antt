@@ -1,2 +1,0 @@
--- What stands at the front of the words of a sketch.
-pub mod Heads
