@@ -29,9 +29,9 @@ refusal_back f (refused n) h = number_back n (in_table n h).0 (in_table n h).1
 refusal_back f (given a) h = refl
 
 -- How many an answer counts, or the number of its refusal, is what the rule comes to.
-listed_back : (o : Outcome (List ℕ)) → Numbered o → number_answer (listed o) ≡ numbered o
-listed_back (refused n) h = ap (λ (k : ℕ). record { refusal = k; value = 0 }) (number_back n (in_table n h).0 (in_table n h).1)
-listed_back (given l) h = refl
+pub number_back_listed : (o : Outcome (List ℕ)) → Numbered o → number_answer (listed o) ≡ numbered o
+number_back_listed (refused n) h = ap (λ (k : ℕ). record { refusal = k; value = 0 }) (number_back n (in_table n h).0 (in_table n h).1)
+number_back_listed (given l) h = refl
 
 -- What C is handed by a call that changes what it is lent.
 pub refusal_handed : {A : Type 0} (o : Outcome A) {r : Result (Unit {0}) Refusal} {n : ℕ} → Numbered o → r ≡ changed o → n ≡ refusal_or_none r → n ≡ refusal_of o
@@ -39,4 +39,4 @@ refusal_handed o h er en = en ∙ ap (λ (r : Result (Unit {0}) Refusal). refusa
 
 -- And by one that writes a list.
 pub number_handed : (o : Outcome (List ℕ)) {r : Result ℕ Refusal} {n : Number} → Numbered o → r ≡ listed o → n ≡ number_answer r → n ≡ numbered o
-number_handed o h er en = en ∙ ap (λ (r : Result ℕ Refusal). number_answer r) er ∙ listed_back o h
+number_handed o h er en = en ∙ ap (λ (r : Result ℕ Refusal). number_answer r) er ∙ number_back_listed o h
