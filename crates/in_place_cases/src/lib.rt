@@ -19,12 +19,7 @@ fn code<W: Word>(number: u64) -> Code<W> {
 }
 
 // Whether a sketch has these sums in its first three places, this count and this last code.
-fn holds<W: Word>(
-    sketch: PowerSumQuack<W>,
-    sums: [u64; 3],
-    count: u32,
-    last: Option<u64>,
-) -> bool {
+fn holds<W: Word>(sketch: PowerSumQuack<W>, sums: [u64; 3], count: u32, last: Option<u64>) -> bool {
     let [first, second, third, ..] = sketch.sums;
     [
         first.value().number(),
@@ -36,6 +31,7 @@ fn holds<W: Word>(
 }
 
 // P5 at this width: the threshold 3, with 10 and 12 inserted.
+#[tactic(auto, using(power_sum::proofs::Sizes::sketch_fits))]
 fn two_insertions<W: Word>() -> Result<bool, Refusal> {
     let empty = PowerSumQuack::<W>::new(3)?;
     let two = empty.insert_once(code(10))?.insert_once(code(12))?;
@@ -43,15 +39,15 @@ fn two_insertions<W: Word>() -> Result<bool, Refusal> {
 }
 
 // P11 at this width: the threshold 2, with the greatest code inserted, and then a code of the same residue removed.
+#[tactic(auto, using(power_sum::proofs::Sizes::sketch_fits))]
 fn back_and_forth<W: Word>(greatest: u64, same: u64) -> Result<bool, Refusal> {
     let empty = PowerSumQuack::<W>::new(2)?;
-    let none = empty
-        .insert_once(code(greatest))?
-        .remove_once(code(same))?;
+    let none = empty.insert_once(code(greatest))?.remove_once(code(same))?;
     Ok(holds(none, [0, 0, 0], 0, None))
 }
 
 // P10 at this width: the threshold 2, with 1 inserted and 2 removed.
+#[tactic(auto, using(power_sum::proofs::Sizes::sketch_fits))]
 fn another_code<W: Word>(apart: [u64; 2]) -> Result<bool, Refusal> {
     let empty = PowerSumQuack::<W>::new(2)?;
     let out = empty.insert_once(code(1))?.remove_once(code(2))?;
@@ -59,6 +55,7 @@ fn another_code<W: Word>(apart: [u64; 2]) -> Result<bool, Refusal> {
 }
 
 // A sketch whose second place is used though its threshold is 1 is refused as not well formed, and stays as it was.
+#[tactic(auto, using(power_sum::proofs::Sizes::sketch_fits))]
 fn refused<W: Word>() -> Result<bool, Refusal> {
     let one = PowerSumQuack::<W>::new(2)?.insert_once(code(10))?;
     let mut lent = PowerSumQuack {
