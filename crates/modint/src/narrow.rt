@@ -60,9 +60,9 @@ impl Word for u16 {
 
     ghost small = { Prim.search rules };
 
-    ghost few = { Prim.search rules };
-
     ghost small_residue = { Prim.search rules };
+
+    ghost few = { Prim.search rules };
 
     fn zero() -> u16 {
         0

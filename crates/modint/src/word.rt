@@ -70,11 +70,12 @@ pub trait Word: Copy + PartialEq {
 
     ghost bytes: { CODE_BYTES ≡ width.kind.code_bytes };
 
-    // A word has no more bytes than a number of 64 bits, and a code no more than that.
+    // A word has no more bytes than a number of 64 bits.
     ghost small: { type_size Self.row ≤ 8 };
-
-    ghost few: { width.kind.code_bytes ≤ 8 };
 
     // Nor has a residue.
     ghost small_residue: { type_size (the_row Self.row) ≤ 8 };
+
+    // Nor has a code.
+    ghost few: { width.kind.code_bytes ≤ 8 };
 }

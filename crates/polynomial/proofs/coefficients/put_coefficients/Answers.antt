@@ -6,7 +6,7 @@ use Rattle.rules.specs.Decode.{coefficients}
 use Rattle.rules.specs.Sums.{common}
 use Rattle.rules.proofs.Newton.{Solving, solving_start, solving_turn, solving_done, solving_none}
 use Rattle.modint.specs.Width.{Width}
-use Rattle.modint.specs.Answers.{val}
+use Rattle.modint.proofs.Residues.{number}
 use Rattle.modint.proofs.Width.{nums_length, nums_item, nums_set, nums_take}
 use Rattle.polynomial.proofs.coefficients.put_coefficients.Goals as goal
 
@@ -51,7 +51,7 @@ loop-i-preserved g c =
     let front = length-take-le i now (omega arith) in
     let item = nums_item w c.args.sums.now i 0 c.index-sums-i.is (omega (arith, inv.1, c.loop-i-test.true, nums_length w c.args.sums.now)) in
     let lower = rw (front, nums_take w i now) at c.newton_sum-lower.ensures in
-    let inverse = ap w.num c.value.ensures ∙ ap (val w) c.inverse_at.ensures ∙ w.num_of _ in (
+    let inverse = ap w.num c.value.ensures ∙ number w c.inverse_at.ensures in (
       rw (nums_set w now i c.times.result) (solving_turn w.kind inv.0 c.loop-i-test.true lower
           (c.times.ensures ∙ rw (c.minus-next.ensures, c.minus-in-loop-i.ensures, c.zero-in-loop-i.ensures, inverse, item))),
       inv.1,

@@ -6,6 +6,7 @@ use Rattle.rules.specs.Decode.{evaluate}
 use Rattle.rules.proofs.Evaluate.{evaluate_residue}
 use Rattle.rules.proofs.Outcomes.{evaluate_none, evaluate_large, evaluate_given}
 use Rattle.modint.specs.Answers.{val, wrap}
+use Rattle.modint.proofs.Residues.{number}
 use Rattle.modint.proofs.Width.{nums_length}
 use Rattle.polynomial.proofs.evaluator.eval.Goals as goal
 
@@ -38,6 +39,6 @@ returns g c =
     let cs = w.nums l in
     let x = w.num c.args.x.0 in
     let full = some (length l) c.is_empty.ensures c.if-is_empty.false in
-    let point : val w c.reduce.result ≡ residue w.kind x = ap (val w) c.reduce.ensures ∙ w.num_of _ in
+    let point : val w c.reduce.result ≡ residue w.kind x = number w c.reduce.ensures in
     let comes = evaluate_given w.kind cs x (omega (arith, nums_length w l, full)) (sym c.all_below.ensures ∙ c.if-not-all_below.false) in
     ap Ok (c.value.ensures ∙ ap (wrap w) (ap (evaluate w.kind cs) point ∙ evaluate_residue w.kind cs x)) ∙ ap (answered (wrap w)) (sym comes)

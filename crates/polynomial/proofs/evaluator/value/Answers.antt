@@ -1,16 +1,12 @@
 -- Horner's rule: the value with the first coefficient, then with one more.
-use Rattle.std.proofs.Common.{ℕ, ◌≡◌, ◌+◌, ◌<◌, ◌≤◌, ◌∷◌, List, length, get_or, suc, ap, sym, ◌∙◌, arith}
+use Rattle.std.proofs.Common.{ℕ, ◌≡◌, ◌+◌, ◌<◌, ◌≤◌, ◌∷◌, List, length, get_or, suc, ap, ◌∙◌, arith}
 use Rattle.rules.specs.Field.{residue}
 use Rattle.rules.proofs.Evaluate.{horner_start, horner_turn, horner_done, evaluate_empty}
-use Rattle.modint.specs.declared.Residue.{Residue}
 use Rattle.modint.specs.Width.{Width}
 use Rattle.modint.specs.Answers.{val, wrap}
+use Rattle.modint.proofs.Residues.{number, residue_of}
 use Rattle.modint.proofs.Width.{nums_length, nums_first, nums_item}
 use Rattle.polynomial.proofs.evaluator.value.Goals as goal
-
--- The residue with a number.
-residue_of : {W : Type 0} (w : Width W) {r : Residue W} {n : ℕ} → val w r ≡ n → r ≡ wrap w n
-residue_of {W} w {r} e = ap (λ (x : W). record { 0 = x }) (sym (w.of_num r.0) ∙ ap w.of e)
 
 module _ {W : Type 0} (w : Width W) (coeffs : List W) {first : W} {rest : List W} (e : coeffs ≡ first ∷ rest) where
   -- The numbers of the coefficients are that of the first and those of the rest.
@@ -34,8 +30,8 @@ loop-coeff-init g c =
     let w = g.W.Word.width in
     let cs = c.args.coeffs.now in
     let first = ap (λ (l : List ℕ). get_or l 0 0) (parts w cs c.in-Some.ensures.cases.0) in
-    let term = ap (val w) c.reduce-2.ensures ∙ w.num_of _ in
-    let sum = ap (val w) c.add-result.ensures ∙ w.num_of _ in
+    let term = number w c.reduce-2.ensures in
+    let sum = number w c.add-result.ensures in
     let some : 1 ≤ length (w.nums cs) = omega (arith, nums_length w cs, c.in-Some.ensures.cases.1) in
     horner_start w.kind (w.nums cs) (val w c.args.x) some (sum ∙ rw (term, first))
 
@@ -45,7 +41,7 @@ loop-coeff-preserved g c =
     let cs = c.args.coeffs.now in
     let k = c.loop-coeff.coeff-index in
     let coeff = item w cs c.in-Some.ensures.cases.0 k c.coeff-item.is c.loop-coeff-test.true in
-    let next = ap (val w) c.mul_add-result.ensures ∙ w.num_of _ in
+    let next = number w c.mul_add-result.ensures in
     let within : k + 1 < length (w.nums cs) = omega (arith, nums_length w cs, c.in-Some.ensures.cases.1, c.loop-coeff-test.true) in
     horner_turn w.kind (w.nums cs) (val w c.args.x) c.loop-coeff.invariant within (next ∙ rw coeff)
 
