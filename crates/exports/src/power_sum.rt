@@ -55,8 +55,9 @@ pub fn remove<W: Layout>(s: &mut [W], code: W) -> Result<(), Refusal>
 {
     let head = words::head_of(s)?;
     let x = Residue::reduce(Code(code));
+    let residue = x.value();
     let end = W::HEAD + head.threshold;
-    let last = words::without(head.last, x.value());
+    let last = words::without(head.last, residue);
     layout::put_head(s, head.threshold, head.count.wrapping_sub(1), last);
     powers::shift_by_powers(&mut s[W::HEAD..end], x, true);
     Ok(())

@@ -27,11 +27,7 @@ pub extern "C" fn eddy16_negate(s: &[u16], out: &mut [u16]) -> u32
 
 #[tactic(auto, using(lent::proofs::Refusals::number_handed, rules::proofs::Outcomes::decode_surplus_in_numbered))]
 #[unsafe(no_mangle)]
-pub extern "C" fn eddy16_decode_surplus_with_log(
-    s: &[u16],
-    got: &[u16],
-    out: &mut [u16],
-) -> Number
+pub extern "C" fn eddy16_decode_surplus_with_log(s: &[u16], got: &[u16], out: &mut [u16]) -> Number
     ensures answer { result ≡ numbered (decode_surplus_in kind16 s.now got.now (length out.old)) }
     ensures buffer { out.new
         ≡ written (decode_surplus_in kind16 s.now got.now (length out.old)) out.old }

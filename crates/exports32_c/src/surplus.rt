@@ -27,11 +27,7 @@ pub extern "C" fn eddy32_negate(s: &[u32], out: &mut [u32]) -> u32
 
 #[tactic(auto, using(lent::proofs::Refusals::number_handed, rules::proofs::Outcomes::decode_surplus_in_numbered))]
 #[unsafe(no_mangle)]
-pub extern "C" fn eddy32_decode_surplus_with_log(
-    s: &[u32],
-    got: &[u32],
-    out: &mut [u32],
-) -> Number
+pub extern "C" fn eddy32_decode_surplus_with_log(s: &[u32], got: &[u32], out: &mut [u32]) -> Number
     ensures answer { result ≡ numbered (decode_surplus_in kind32 s.now got.now (length out.old)) }
     ensures buffer { out.new
         ≡ written (decode_surplus_in kind32 s.now got.now (length out.old)) out.old }

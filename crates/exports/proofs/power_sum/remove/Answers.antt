@@ -58,7 +58,7 @@ returns g c =
     let after = c.put_head.new.words in
     let moved = c.shift_by_powers.ensures ∙ ap (λ (l : List ℕ). moved_by_powers w.kind true (val w c.reduce-x.result) l) (part w after law refl) in
     let kept : last_of w c.without-last.result ≡ last_without (said_by w.kind ws).last (residue w.kind code) =
-    c.without-last.ensures ∙ ap₂ last_without h.last (ap w.num c.value.ensures ∙ x) in
+    c.without-last.ensures ∙ ap₂ last_without h.last (ap w.num c.value-residue.ensures ∙ x) in
     let words = without_words (said_by w.kind ws).last (residue w.kind code) in
     stored ws (remove_in w.kind ws code) (remove_in_numbered w.kind ws code) refl (put_back w after c.shift_by_powers.new.sums _ law)
     (remove_stores w.kind ws h.ok code h.threshold (omega (arith, c.HEAD.ensures, c.HEAD-2.ensures)) (ap (λ (k : ℕ). difference counts k 1) h.count)
