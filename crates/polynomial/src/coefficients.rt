@@ -14,9 +14,10 @@ fn newton_sum<W: Word>(sums: &[W], coeffs: &[W]) -> W
         ≡ sum_to (λ (j : ℕ). get_or (W.width.nums sums.now) j 0 * get_or (W.width.nums coeffs.now) (length coeffs.now - j - 1) 0)
         (length coeffs.now) % W.width.kind.modulus }
 {
+    let i = coeffs.len();
     let mut total = W::zero();
-    for (sum, coeff) in sums.iter().zip(coeffs.iter().rev()) {
-        total = total.plus(sum.times(*coeff));
+    for (j, sum) in sums[..i].iter().enumerate() {
+        total = total.plus(sum.times(coeffs[i - j - 1]));
     }
     total
 }
