@@ -6,4 +6,5 @@ pub mod Filled
 pub mod Negated
 pub mod Determined
 pub mod InPlace
+pub mod Idle
 pub mod Promise
