@@ -7,4 +7,5 @@ pub mod Negated
 pub mod Determined
 pub mod InPlace
 pub mod Idle
+pub mod Wrong
 pub mod Promise
