@@ -9,3 +9,4 @@ pub mod InPlace
 pub mod Idle
 pub mod Wrong
 pub mod Promise
+pub mod Witness
