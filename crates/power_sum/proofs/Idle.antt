@@ -9,7 +9,6 @@ use Rattle.numbers.specs.Power.{power_mod, power_within}
 use Rattle.numbers.specs.Table.{every}
 use Rattle.modint.specs.declared.Code.{Code}
 use Rattle.modint.specs.Width.{Width, width16, width32}
-use Rattle.modint.specs.Answers.{val}
 use Rattle.modint.proofs.Blocks.{word16, word32, Passed, passing}
 use Rattle.rules.specs.Signed.{signed_count}
 use Rattle.rules.specs.Sketch as sketch
@@ -172,8 +171,7 @@ module _ (p : Passed u16) (q : Passed u32) where
     unfolding sketch.insert fresh each every well_formed decode_of calls.decode decoding.decode decoding.coefficients decoding.evaluate decoding.newest_first
         power_mod power_within
     fixed_list_falls r out₁ =
-        let first = λ (l : List ℕ). get_or l 0 0 in
-        (
+        let first = λ (l : List ℕ). get_or l 0 0 in (
           λ h. (λ e. differs first (0 ∷ 0 ∷ []) refl (sym e ∙ h.1), λ e. differs first (1 ∷ 10 ∷ []) refl (sym e ∙ h.1)),
           λ h. (λ e. differs first (0 ∷ 0 ∷ []) refl (sym e ∙ h.1), λ e. differs first (1 ∷ 10 ∷ []) refl (sym e ∙ h.1)),
         )
@@ -187,11 +185,10 @@ module _ (p : Passed u16) (q : Passed u32) where
         λ s r. post κs (s, (lent (1 ∷ 10 ∷ []), (lent_mut (0 ∷ 0 ∷ []), tt))) r (s, (log₁, (out₁, tt))) in
         MustAnswer refused (Surplus (gone w)) × MustAnswer refused (Surplus (both w)))
     unfolding sketch.insert sketch.remove fresh each every well_formed signed_count decode_surplus_of calls.decode_surplus
-    surplus_must_answer out₁ =
-        (
-          (λ a t h. must_answer refused refl a t h.0, λ a t h. must_answer refused refl a t h.0),
-          (λ a t h. must_answer refused refl a t h.0, λ a t h. must_answer refused refl a t h.0),
-        )
+    surplus_must_answer out₁ = (
+      (λ a t h. must_answer refused refl a t h.0, λ a t h. must_answer refused refl a t h.0),
+      (λ a t h. must_answer refused refl a t h.0, λ a t h. must_answer refused refl a t h.0),
+    )
 
     -- The empty list leaves the buffer as it was, and all got codes fill it.
     pub fixed_surplus_falls : (r : Result ℕ Refusal) (out₁ : MutBor (List ℕ))
@@ -201,8 +198,7 @@ module _ (p : Passed u16) (q : Passed u32) where
     unfolding sketch.remove sketch.negate fresh each every well_formed signed_count decode_surplus_of calls.decode_surplus decoding.surplus decoding.decode
         decoding.coefficients decoding.evaluate decoding.newest_first power_mod power_within
     fixed_surplus_falls r out₁ =
-        let first = λ (l : List ℕ). get_or l 0 0 in
-        (
+        let first = λ (l : List ℕ). get_or l 0 0 in (
           λ h. (λ e. differs first (0 ∷ 0 ∷ []) refl (sym e ∙ h.1), λ e. differs first (1 ∷ 10 ∷ []) refl (sym e ∙ h.1)),
           λ h. (λ e. differs first (0 ∷ 0 ∷ []) refl (sym e ∙ h.1), λ e. differs first (1 ∷ 10 ∷ []) refl (sym e ∙ h.1)),
         )

@@ -11,7 +11,7 @@ use Rattle.modint.specs.Width.{Width, width16, width32}
 use Rattle.modint.proofs.Blocks.{word16, word32, Passed, passing}
 use Rattle.rules.specs.Field.{residue}
 use Rattle.rules.specs.Sketch.{Sketch, fresh, insert, remove, subtract, cut, each, well_formed}
-use Rattle.rules.specs.Packet.{bytes, number, all_bytes, all_numbers, packet, packet_length, sketch_in}
+use Rattle.rules.specs.Packet.{bytes, number, all_bytes, all_numbers, packet, sketch_in}
 use Rattle.rules.specs.Calls as calls
 use Rattle.rules.specs.History as history
 use Rattle.rules.specs.History.{History, net, excess}
@@ -140,34 +140,31 @@ module _ (p : Passed u16) (q : Passed u32) where
     ran_two : Ran (the_calls word16 p) two_inserted (built width16 (insert width16.kind (insert width16.kind (fresh 2) 7) 9))
         × Ran (the_calls word32 q) two_inserted (built width32 (insert width32.kind (insert width32.kind (fresh 2) 7) 9))
     unfolding fresh insert each every well_formed new_of insert_of calls.make calls.insert
-    ran_two =
-        (
-          inserted (code 9) (inserted (code 7) (made 2 (κ, refl)) (inl (κ, refl))) (inl (κ, refl)),
-          inserted (code 9) (inserted (code 7) (made 2 (κ, refl)) (inl (κ, refl))) (inl (κ, refl)),
-        )
+    ran_two = (
+      inserted (code 9) (inserted (code 7) (made 2 (κ, refl)) (inl (κ, refl))) (inl (κ, refl)),
+      inserted (code 9) (inserted (code 7) (made 2 (κ, refl)) (inl (κ, refl))) (inl (κ, refl)),
+    )
 
     -- Those by which more came than was sent.
     ran_over : Ran (the_calls word16 p) (calls_over width16) (built width16 (over width16)) × Ran (the_calls word32 q) (calls_over width32) (built width32 (over width32))
     unfolding fresh insert subtract each every well_formed new_of insert_of sub_assign_of calls.make calls.insert calls.sub_assign
-    ran_over =
-        (
-          subtracted_in_place (inserted (code 5) (made 2 (κ, refl)) (inl (κ, refl)))
+    ran_over = (
+      subtracted_in_place (inserted (code 5) (made 2 (κ, refl)) (inl (κ, refl)))
           (inserted (code width16.kind.modulus) (inserted (code 7) (inserted (code 5) (made 2 (κ, refl)) (inl (κ, refl))) (inl (κ, refl))) (inl (κ, refl)))
           (κ, refl),
-          subtracted_in_place (inserted (code 5) (made 2 (κ, refl)) (inl (κ, refl)))
+      subtracted_in_place (inserted (code 5) (made 2 (κ, refl)) (inl (κ, refl)))
           (inserted (code width32.kind.modulus) (inserted (code 7) (inserted (code 5) (made 2 (κ, refl)) (inl (κ, refl))) (inl (κ, refl))) (inl (κ, refl)))
           (κ, refl),
-        )
+    )
 
     -- Those of the two removals.
     ran_removed : Ran (the_calls word16 p) two_removed (built width16 (remove width16.kind (remove width16.kind (fresh 2) 7) 0))
         × Ran (the_calls word32 q) two_removed (built width32 (remove width32.kind (remove width32.kind (fresh 2) 7) 0))
     unfolding fresh remove each every well_formed new_of remove_of calls.make calls.remove
-    ran_removed =
-        (
-          removed (code 0) (removed (code 7) (made 2 (κ, refl)) (inl (κ, refl))) (inl (κ, refl)),
-          removed (code 0) (removed (code 7) (made 2 (κ, refl)) (inl (κ, refl))) (inl (κ, refl)),
-        )
+    ran_removed = (
+      removed (code 0) (removed (code 7) (made 2 (κ, refl)) (inl (κ, refl))) (inl (κ, refl)),
+      removed (code 0) (removed (code 7) (made 2 (κ, refl)) (inl (κ, refl))) (inl (κ, refl)),
+    )
 
   -- ---- what is left
 
@@ -180,8 +177,7 @@ module _ (p : Passed u16) (q : Passed u32) where
     unfolding fresh insert remove subtract cut
     limit_listed ls log₁ out₁ r =
         let log = lent (5 ∷ 7 ∷ 9 ∷ 7 ∷ 11 ∷ 13 ∷ []) in
-        let out = lent_mut (replicate 6 0) in
-        (
+        let out = lent_mut (replicate 6 0) in (
           λ h. decode_exact word16 p (ran16 κ κs) two_left.0 ls log log₁ out out₁ r (lit≤ tt) h,
           λ h. decode_exact word32 q (ran32 κ κs) two_left.1 ls log log₁ out out₁ r (lit≤ tt) h,
         )
@@ -189,11 +185,10 @@ module _ (p : Passed u16) (q : Passed u32) where
     -- The sums determine what is left: both histories keep two sums, which are the same, so each residue has the same net number in both.
     pub limit_same : AtEach (λ w. (r : ℕ) → net w.kind calls_made r ≡ net w.kind two_inserted r)
     unfolding fresh insert remove subtract cut each
-    limit_same =
-        (
-          same_net word16 p (ran16 κ κs) two_left.0 (ran_two κ).0 (record { none_below = λ r. omega arith; in_all = refl; enough = lit≤ tt }) refl,
-          same_net word32 q (ran32 κ κs) two_left.1 (ran_two κ).1 (record { none_below = λ r. omega arith; in_all = refl; enough = lit≤ tt }) refl,
-        )
+    limit_same = (
+      same_net word16 p (ran16 κ κs) two_left.0 (ran_two κ).0 (record { none_below = λ r. omega arith; in_all = refl; enough = lit≤ tt }) refl,
+      same_net word32 q (ran32 κ κs) two_left.1 (ran_two κ).1 (record { none_below = λ r. omega arith; in_all = refl; enough = lit≤ tt }) refl,
+    )
 
   -- ---- more came than was sent
 
@@ -211,8 +206,7 @@ module _ (p : Passed u16) (q : Passed u32) where
         → (r ≡ Ok 4) × (out₁.now ≡ 7 ∷ 0 ∷ 7 ∷ w.kind.modulus ∷ 9 ∷ []))
     unfolding fresh insert subtract
     limit_surplus ls got₁ out₁ r =
-        let out = lent_mut (replicate 5 9) in
-        (
+        let out = lent_mut (replicate 5 9) in (
           λ h. surplus_exact word16 p (ran_over κ).0 two_over.0 ls (lent (5 ∷ 7 ∷ 0 ∷ 7 ∷ width16.kind.modulus ∷ [])) got₁ out out₁ r (lit≤ tt) h,
           λ h. surplus_exact word32 q (ran_over κ).1 two_over.1 ls (lent (5 ∷ 7 ∷ 0 ∷ 7 ∷ width32.kind.modulus ∷ [])) got₁ out out₁ r (lit≤ tt) h,
         )
@@ -220,11 +214,10 @@ module _ (p : Passed u16) (q : Passed u32) where
     -- Both histories keep two sums, which are the same, so each residue has the same net number in both.
     pub limit_same_excess : AtEach (λ w. (r : ℕ) → excess w.kind (calls_over w) r ≡ excess w.kind two_removed r)
     unfolding fresh insert remove subtract each
-    limit_same_excess =
-        (
-          same_excess word16 p (ran_over κ).0 two_over.0 (ran_removed κ).0 (record { none_above = λ r. omega arith; in_all = refl; few = lit≤ tt }) refl,
-          same_excess word32 q (ran_over κ).1 two_over.1 (ran_removed κ).1 (record { none_above = λ r. omega arith; in_all = refl; few = lit≤ tt }) refl,
-        )
+    limit_same_excess = (
+      same_excess word16 p (ran_over κ).0 two_over.0 (ran_removed κ).0 (record { none_above = λ r. omega arith; in_all = refl; few = lit≤ tt }) refl,
+      same_excess word32 q (ran_over κ).1 two_over.1 (ran_removed κ).1 (record { none_above = λ r. omega arith; in_all = refl; few = lit≤ tt }) refl,
+    )
 
   -- ---- a packet
 
@@ -233,8 +226,7 @@ module _ (p : Passed u16) (q : Passed u32) where
       → (Read word16 p (trailed width16) s → Wrote word16 p s again → again ≡ packet width16.kind 1 (residue width16.kind (most width16)) (5 ∷ []))
       × (Read word32 q (trailed width32) s → Wrote word32 q s again → again ≡ packet width32.kind 1 (residue width32.kind (most width32)) (5 ∷ []))
   unfolding bytes number packet all_bytes
-  limit_written_again =
-      (
-        λ read wrote. read_and_written word16 p (trailed width16) trailed_bytes.0 read wrote,
-        λ read wrote. read_and_written word32 q (trailed width32) trailed_bytes.1 read wrote,
-      )
+  limit_written_again = (
+    λ read wrote. read_and_written word16 p (trailed width16) trailed_bytes.0 read wrote,
+    λ read wrote. read_and_written word32 q (trailed width32) trailed_bytes.1 read wrote,
+  )

@@ -1,6 +1,6 @@
 -- Two wrong answers for each public call of the sketch, at one input each and at both widths: the contract allows neither.
 -- Assumes nothing.
-use Rattle.std.proofs.Common.{ℕ, ◌+◌, ◌-◌, ◌^◌, Bool, true, false, cond, List, [], ◌∷◌, get_or, replicate, pos, negsuc, refl, Bor}
+use Rattle.std.proofs.Common.{ℕ, ◌+◌, ◌-◌, ◌^◌, true, false, List, [], ◌∷◌, get_or, replicate, pos, negsuc, refl, Bor}
 use Rattle.std.specs.Prelude.{Option, Some, None, Result, Ok, Err}
 use denote.Builtin.{u16, u32}
 use contract.Lifetimes.{Lfts}
@@ -198,42 +198,38 @@ module _ (p : Passed u16) (q : Passed u32) where
         (λ post w. (post κs (lent_mut (none w), (code 10, tt)) (Ok tt) (lent_mut (none w), (code 10, tt)) → ⊥)
         × (post κs (lent_mut (none w), (code 10, tt)) (Err NotWellFormed) (lent_mut (none w), (code 10, tt)) → ⊥))
     unfolding fresh each every well_formed sketch.insert insert_of calls.insert
-    insert_in_place_wrong =
-        (
-          (λ h. differs counted (none width16) refl h.1, λ h. differs refusal_or_none (Err NotWellFormed) refl h.0),
-          (λ h. differs counted (none width32) refl h.1, λ h. differs refusal_or_none (Err NotWellFormed) refl h.0),
-        )
+    insert_in_place_wrong = (
+      (λ h. differs counted (none width16) refl h.1, λ h. differs refusal_or_none (Err NotWellFormed) refl h.0),
+      (λ h. differs counted (none width32) refl h.1, λ h. differs refusal_or_none (Err NotWellFormed) refl h.0),
+    )
 
     -- A removal in place leaves the sketch as it was, or is refused.
     pub remove_in_place_wrong : AtBoth (passing word16 p remove_in_place.Post) (passing word32 q remove_in_place.Post)
         (λ post w. (post κs (lent_mut (both w), (code 10, tt)) (Ok tt) (lent_mut (both w), (code 10, tt)) → ⊥)
         × (post κs (lent_mut (both w), (code 10, tt)) (Err NotWellFormed) (lent_mut (both w), (code 10, tt)) → ⊥))
     unfolding fresh each every well_formed sketch.insert sketch.remove remove_of calls.remove
-    remove_in_place_wrong =
-        (
-          (λ h. differs counted (both width16) refl h.1, λ h. differs refusal_or_none (Err NotWellFormed) refl h.0),
-          (λ h. differs counted (both width32) refl h.1, λ h. differs refusal_or_none (Err NotWellFormed) refl h.0),
-        )
+    remove_in_place_wrong = (
+      (λ h. differs counted (both width16) refl h.1, λ h. differs refusal_or_none (Err NotWellFormed) refl h.0),
+      (λ h. differs counted (both width32) refl h.1, λ h. differs refusal_or_none (Err NotWellFormed) refl h.0),
+    )
 
     -- The last code stays where the code of which it is the residue is removed in place.
     pub last_code_kept_in_place_wrong : AtBoth (passing word16 p remove_in_place.Post) (passing word32 q remove_in_place.Post)
         (λ post w. post κs (lent_mut (large w), (code (most w), tt)) (Ok tt) (lent_mut (kept w), (code (most w), tt)) → ⊥)
     unfolding fresh each every well_formed sketch.insert sketch.remove remove_of calls.remove
-    last_code_kept_in_place_wrong =
-        (
-          λ h. differs (λ (s : PowerSumQuack ℕ). last_number s.last) (kept width16) refl h.1,
-          λ h. differs (λ (s : PowerSumQuack ℕ). last_number s.last) (kept width32) refl h.1,
-        )
+    last_code_kept_in_place_wrong = (
+      λ h. differs (λ (s : PowerSumQuack ℕ). last_number s.last) (kept width16) refl h.1,
+      λ h. differs (λ (s : PowerSumQuack ℕ). last_number s.last) (kept width32) refl h.1,
+    )
 
     -- A sketch that is refused in place is changed: one of threshold 0 gets a threshold.
     pub refused_in_place_wrong : AtBoth (passing word16 p insert_in_place.Post) (passing word32 q insert_in_place.Post)
         (λ post w. post κs (lent_mut (built w no_sketch), (code 10, tt)) (Err NotWellFormed) (lent_mut (none w), (code 10, tt)) → ⊥)
     unfolding fresh each every well_formed insert_of calls.insert
-    refused_in_place_wrong =
-        (
-          λ h. differs (λ (s : PowerSumQuack ℕ). s.threshold) (none width16) refl h.1,
-          λ h. differs (λ (s : PowerSumQuack ℕ). s.threshold) (none width32) refl h.1,
-        )
+    refused_in_place_wrong = (
+      λ h. differs (λ (s : PowerSumQuack ℕ). s.threshold) (none width16) refl h.1,
+      λ h. differs (λ (s : PowerSumQuack ℕ). s.threshold) (none width32) refl h.1,
+    )
 
     -- ---- lists
 

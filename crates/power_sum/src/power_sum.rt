@@ -1,5 +1,5 @@
 // The sketch: its parts, and how it is made, tested and changed.
-ghost use Rattle.std.specs.Prelude.{◌≡◌, true, map};
+ghost use Rattle.std.specs.Prelude.{◌≡◌, ⊤, true, map};
 ghost use Rattle.modint.specs.Answers.{val, wrap};
 ghost use Rattle.rules.specs.Sketch.{last_fits, in_range, last_without, placed};
 ghost use Rattle.rules.specs.Sums.{all_below, moved_by_powers};
@@ -28,6 +28,10 @@ pub type PowerSumQuackU16 = PowerSumQuack<u16>;
 
 // By hand: a derive asks a clause of the elements of an array.
 impl<W: Word> Clone for PowerSumQuack<W> {
+    ghost is_clone = { λ x y. y ≡ x };
+
+    ghost is_infallible = { λ _. ⊤ };
+
     fn clone(&self) -> Result<PowerSumQuack<W>, AllocError> {
         Ok(*self)
     }
