@@ -5,7 +5,6 @@ use Rattle.std.specs.Result.{IsErr, IsErrAnd}
 use Rattle.std.proofs.lemmas.Result.{err_from_is_err_and}
 use Rattle.modint.specs.Width.{Width}
 use Rattle.rules.specs.Calls.{unless, given}
-use Rattle.rules.specs.Sketch.{Sketch}
 use Rattle.lent.specs.Refusals.{changed}
 use Rattle.lent.specs.declared.refusal.Refusal.{Refusal}
 use Rattle.lent.specs.declared.refusal.Refusal.TheVariants.{NotWellFormed}

@@ -1,7 +1,7 @@
 -- The calls on a lent sketch: what each promises of its refusal and of the sketch that it leaves, and that it determines both.
 -- Assumes nothing.
 use Rattle.std.proofs.Common.{◌≡◌, ℕ, lit<, refl, sym, ◌∙◌, MutBor}
-use Rattle.std.specs.Prelude.{Result}
+use Rattle.std.specs.Prelude.{Result, Ok, Err}
 use mathlib.Core.List.{not-mem-nil}
 use denote.RattleType.{RattleType}
 use denote.Builtin.{u16, u32}
@@ -30,6 +30,11 @@ use Rattle.power_sum.proofs.power_sum.PowerSumQuack.remove_once.Reads as remove_
 -- What a call in place promises of its refusal and of the sketch that it leaves, where the call by value has this answer.
 abbrev pub Promised : {S : Type 0} → S → Result S Refusal → Result (Unit {0}) Refusal × S → Type 0
 Promised before a o = (o.0 ≡ only_refusal a) × (o.1 ≡ left_in before a)
+
+-- So a call that is refused leaves the sketch as it was.
+pub refused_stays : {S : Type 0} {before after : S} (a : Result S Refusal) {e : Refusal} → Promised before a (Err e, after) → after ≡ before
+refused_stays (Ok s) promised = let p = promised.0 in cc
+refused_stays (Err d) promised = promised.1
 
 -- The promise determines both.
 pub determined : {S : Type 0} (before : S) (a : Result S Refusal) (o o' : Result (Unit {0}) Refusal × S) → Promised before a o → Promised before a o' → o ≡ o'

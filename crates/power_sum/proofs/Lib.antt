@@ -6,4 +6,7 @@ pub mod Filled
 pub mod Negated
 pub mod Determined
 pub mod InPlace
+pub mod Idle
+pub mod Wrong
 pub mod Promise
+pub mod Witness

@@ -1,6 +1,6 @@
 -- The struct of a negated sketch: a fresh struct less it, and what decoding it comes to. Over any width.
 -- Assumes nothing.
-use Rattle.std.proofs.Common.{◌≡◌, ℕ, ◌<◌, true, List, map, length, refl, sym, ◌∙◌, le-leb, Result, Ok, Err}
+use Rattle.std.proofs.Common.{◌≡◌, ℕ, ◌<◌, true, List, map, length, refl, sym, ◌∙◌, le-leb, Result, Ok}
 use Rattle.modint.specs.Width.{Width}
 use Rattle.modint.specs.Answers.{val}
 use Rattle.rules.specs.Kind.{counts}

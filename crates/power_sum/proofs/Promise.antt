@@ -181,8 +181,7 @@ module _ {T : RattleType} (w : Word T) (p : Passed T) where
       → l.answer ≡ listed o → w.width.nums l.out_lent₁.now ≡ written o (w.width.nums l.out_lent.now)
       → (r ≡ refusal_of o) × (n ≡ length_of o) × (out₁ ≡ written o out)
   tells l o numbered answers leaves =
-      let said = sym l.told ∙ ap number_answer answers ∙ number_back_listed o numbered in
-      (
+      let said = sym l.told ∙ ap number_answer answers ∙ number_back_listed o numbered in (
         ap (λ (a : Number). a.refusal) said,
         ap (λ (a : Number). a.value) said,
         sym l.left ∙ leaves ∙ ap (written o) l.the_buffer,
@@ -235,7 +234,7 @@ module _ {T : RattleType} (w : Word T) (p : Passed T) where
   decode_exact ran left κs log log₁ out out₁ r room promised =
       let enough : length (w.width.nums log.now) ≤ length (w.width.nums out.now) = rw (nums_length w.width log.now, nums_length w.width out.now) room in
       let d = run.decode_exact w.width.kind the_calls sound ran left (w.width.nums log.now) (w.width.nums out.now) _ _ (w.width.nums out₁.now) enough
-          (listing κs log log₁ out out₁ r promised) in
+      (listing κs log log₁ out out₁ r promised) in
       (wrote r d.0 d.1, d.2)
 
   -- Two sketches that leave equally many, with the same first sums, leave the same: their net numbers agree, residue by residue.
@@ -261,7 +260,7 @@ module _ {T : RattleType} (w : Word T) (p : Passed T) where
   surplus_exact ran over κs got got₁ out out₁ r room promised =
       let enough : length (w.width.nums got.now) ≤ length (w.width.nums out.now) = rw (nums_length w.width got.now, nums_length w.width out.now) room in
       let d = run.surplus_exact w.width.kind the_calls sound ran over (w.width.nums got.now) (w.width.nums out.now) _ _ (w.width.nums out₁.now) enough
-          (listing κs got got₁ out out₁ r promised) in
+      (listing κs got got₁ out out₁ r promised) in
       (wrote r d.0 d.1, d.2)
 
   -- Two sketches with equally many surplus, and the same first sums, have the same surplus: their net numbers agree, residue by residue.

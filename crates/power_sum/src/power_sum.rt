@@ -1,5 +1,5 @@
 // The sketch: its parts, and how it is made, tested and changed.
-ghost use Rattle.std.specs.Prelude.{◌≡◌, true, map};
+ghost use Rattle.std.specs.Prelude.{◌≡◌, ⊤, true, map};
 ghost use Rattle.modint.specs.Answers.{val, wrap};
 ghost use Rattle.rules.specs.Sketch.{last_fits, in_range, last_without, placed};
 ghost use Rattle.rules.specs.Sums.{all_below, moved_by_powers};
@@ -26,8 +26,12 @@ pub type PowerSumQuackU32 = PowerSumQuack<u32>;
 // The sketch of 16-bit codes.
 pub type PowerSumQuackU16 = PowerSumQuack<u16>;
 
-// By hand: a derive asks a clause of the elements of an array.
+// By hand: the derive clones the array, which asks for sizes that are not known of a type parameter.
 impl<W: Word> Clone for PowerSumQuack<W> {
+    ghost is_clone = { λ x y. y ≡ x };
+
+    ghost is_infallible = { λ _. ⊤ };
+
     fn clone(&self) -> Result<PowerSumQuack<W>, AllocError> {
         Ok(*self)
     }
@@ -58,6 +62,7 @@ fn residues<W: Word>(numbers: [W; PLACES]) -> [Residue<W>; PLACES]
     ensures { result ≡ map (wrap W.width) (W.width.nums numbers) }
 {
     let mut residues = [Residue::zero(); PLACES];
+    // By places: an array's `map` asks for sizes that are not known of a type parameter, and what a loop over `iter_mut` beside others wrote is not known.
     for (k, number) in numbers.iter().enumerate() {
         residues[k] = Residue::reduce(Code(*number));
     }
@@ -89,6 +94,7 @@ impl<W: Word> PowerSumQuack<W> {
         ensures { W.width.nums result ≡ map (val W.width) self.sums }
     {
         let mut numbers = [W::zero(); PLACES];
+        // By places, as `residues` is made.
         for (k, residue) in self.sums.iter().enumerate() {
             numbers[k] = residue.value();
         }

@@ -1,5 +1,5 @@
 -- The coefficients, with their refusals, and then their roots in the log.
-use Rattle.std.proofs.Common.{◌≡◌, ℕ, ◌<◌, ◌≤◌, List, map, length, take, replicate, refl, sym, ap, ◌∙◌, arith, rules, Result, Ok}
+use Rattle.std.proofs.Common.{◌≡◌, ℕ, ◌<◌, ◌≤◌, List, map, length, ap, ◌∙◌, arith, rules}
 use denote.Memory.{lone}
 use Rattle.modint.specs.Width.{Width}
 use Rattle.modint.specs.Answers.{val}
@@ -7,12 +7,11 @@ use Rattle.modint.proofs.Width.{nums_length, nums_take}
 use Rattle.rules.proofs.WellFormed.{threshold_in_range}
 use Rattle.rules.proofs.Outcomes as outcomes
 use Rattle.rules.proofs.Outcomes.{listed_short, listed_given, decode_from}
-use Rattle.lent.specs.Refusals.{listed}
 use Rattle.power_sum.specs.declared.power_sum.PowerSumQuack.{PowerSumQuack}
 use Rattle.power_sum.specs.Answers.{view, last_of, well_formed_of, coefficients_of, decode_of}
 use Rattle.power_sum.proofs.Sizes.{words_fit}
 use Rattle.power_sum.proofs.Checked.{handed_on}
-use Rattle.power_sum.proofs.Filled.{refusal, listing, refused_for, Holds, holds}
+use Rattle.power_sum.proofs.Filled.{refusal, listing, refused_for, holds}
 use Rattle.power_sum.proofs.power_sum.PowerSumQuack.decode_with_log.Goals as goal
 
 -- Decoding comes to what the coefficients come to, and then to their roots.

@@ -1,6 +1,5 @@
 -- The test, and then a fresh sketch less this one.
-use Rattle.std.proofs.Common.{◌≡◌, ◌<◌, true, length, sym, ◌∙◌, rules}
-use Rattle.rules.specs.Kind.{counts}
+use Rattle.std.proofs.Common.{sym, ◌∙◌, rules}
 use Rattle.rules.specs.Calls as calls
 use Rattle.power_sum.specs.Answers.{negate_of}
 use Rattle.power_sum.proofs.Checked.{passed, failed}

@@ -1,5 +1,5 @@
 -- The tests in the order of the refusals, and then the packet.
-use Rattle.std.proofs.Common.{◌≡◌, ℕ, List, min, true, map, length, sym, take, refl, ap, ◌∙◌, arith, take-take, rules, Option, Some, None, Result, Ok, Err}
+use Rattle.std.proofs.Common.{◌≡◌, ℕ, List, min, true, map, length, sym, take, refl, ap, ◌∙◌, arith, take-take, rules, Option, Some, None, Ok, Err}
 use Rattle.std.specs.Prelude.{ok_or}
 use lib.ListN.{length-map}
 use denote.Memory.{lone}

@@ -1,5 +1,4 @@
 -- The tests of both sketches, and then the difference.
-use Rattle.std.specs.Prelude.{◌&&◌}
 use denote.Memory.{lone}
 use Rattle.rules.specs.Calls as calls
 use Rattle.power_sum.specs.Answers.{sub_of}

@@ -1,10 +1,9 @@
 -- The tests in the order of the refusals, and then the coefficients of the sums over the front of the buffer.
-use Rattle.std.proofs.Common.{◌≡◌, map, length, take, drop, sym, refl, ap, ap₂, ◌∙◌, arith, length-take-le, rules}
+use Rattle.std.proofs.Common.{◌≡◌, map, length, take, drop, sym, refl, ap, ◌∙◌, arith, length-take-le, rules}
 use lib.ListN.{length-map}
 use denote.Memory.{lone}
 use Rattle.modint.specs.Answers.{val}
 use Rattle.modint.proofs.Width.{nums_length, nums_take, nums_drop, nums_append}
-use Rattle.rules.specs.Decode.{coefficients}
 use Rattle.rules.proofs.Recurrence.{coefficients_length}
 use Rattle.rules.proofs.Newton.{coefficients_over_part}
 use Rattle.rules.proofs.Outcomes.{coefficients_malformed, coefficients_over, coefficients_short, coefficients_given}
