@@ -22,7 +22,10 @@ pub(crate) fn followed<T: Copy + Into<u32>>(head: &[u32], rest: &[T]) -> Option<
 }
 
 // The answer of a call that changes words: its refusal, and all the words.
-pub(crate) fn changed<T: Copy + Into<u32>>(done: Result<(), Refusal>, words: &[T]) -> Option<Answer> {
+pub(crate) fn changed<T: Copy + Into<u32>>(
+    done: Result<(), Refusal>,
+    words: &[T],
+) -> Option<Answer> {
     followed(&[refusal_or_none(done)], words)
 }
 

@@ -135,7 +135,10 @@ pub(crate) fn decode_with_log<W: Operand>(args: &[u32], slots: &Slots<W>) -> Opt
     list(args, slots, decoder::decode_with_log)
 }
 
-pub(crate) fn decode_surplus_with_log<W: Operand>(args: &[u32], slots: &Slots<W>) -> Option<Answer> {
+pub(crate) fn decode_surplus_with_log<W: Operand>(
+    args: &[u32],
+    slots: &Slots<W>,
+) -> Option<Answer> {
     list(args, slots, surplus::decode_surplus_with_log)
 }
 
