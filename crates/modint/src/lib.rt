@@ -20,12 +20,10 @@ use word::Word;
 pub struct Code<W>(pub W);
 
 // A residue modulo the prime. Only a reduction turns a code into one.
-#[repr(C)]
 #[derive(Clone, Copy)]
 pub struct Residue<W>(W);
 
 // A power, and the number of field multiplications that were made for it.
-#[repr(C)]
 #[derive(Clone, Copy)]
 pub struct Powered<W> {
     pub value: Residue<W>,

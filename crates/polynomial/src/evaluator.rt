@@ -9,7 +9,6 @@ ghost use Rattle.rules.specs.Decode.{evaluate};
 ghost use Rattle.rules.specs.Sums.{roots};
 ghost use Rattle.rules.specs.Calls as calls;
 ghost use Rattle.rules.proofs.Listing.{Listed};
-ghost use Rattle.polynomial.specs.Answers.{evaluated};
 
 use lent::refusal::Refusal;
 use modint::word::Word;
@@ -43,28 +42,6 @@ pub fn eval<W: Word>(coeffs: &[W], x: Code<W>) -> Result<Residue<W>, Refusal>
         return Err(Refusal::NotBelowPrime);
     }
     Ok(value(coeffs, Residue::reduce(x)))
-}
-
-// A value as C has it, or the number of a refusal and 0.
-#[repr(C)]
-#[derive(Clone, Copy)]
-pub struct Evaluated<W> {
-    pub refusal: u32,
-    pub value: Residue<W>,
-}
-
-impl<W: Word> From<Result<Residue<W>, Refusal>> for Evaluated<W> {
-    ghost from_gives = { λ answer e. e ≡ evaluated W.width answer };
-
-    fn from(answer: Result<Residue<W>, Refusal>) -> Evaluated<W> {
-        match answer {
-            Ok(value) => Evaluated { refusal: 0, value },
-            Err(refusal) => Evaluated {
-                refusal: refusal.number(),
-                value: Residue::zero(),
-            },
-        }
-    }
 }
 
 // Each entry and the first coefficient. By place, here and in a step: of what is written through a zip no proof learns.
