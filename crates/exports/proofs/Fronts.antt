@@ -7,9 +7,7 @@ use Rattle.rules.specs.Field.{difference}
 use Rattle.rules.specs.Sketch.{last_fits}
 use Rattle.rules.specs.Words.{head_words, count_in, last_in, last_shaped, last_said, words_fit}
 use borrow.Rule.Slice.PartMut.{put_mid}
-use Rattle.modint.specs.declared.Residue.{Residue}
 use Rattle.modint.specs.Width.{Width}
-use Rattle.modint.specs.Answers.{val, wrap}
 use Rattle.modint.proofs.Width.{nums_at, nums_take, nums_drop, nums_append}
 use Rattle.exports.specs.Heads.{word_of, said_last, head_in}
 
@@ -48,10 +46,6 @@ module _ {W : Type 0} (w : Width W) where
       nums_append w (take h words) (over ++ rest)
       ∙ ap₂ (λ (x y : List ℕ). x ++ y) (nums_take w h words) (nums_append w over rest ∙ ap (λ (y : List ℕ). w.nums over ++ y) behind)
       ∙ ap (λ (i : ℕ). put_mid i m (w.nums words) (w.nums over)) e
-
-  -- The number of a residue with a number.
-  pub residue_number : {r : Residue W} {n : ℕ} → r ≡ wrap w n → val w r ≡ n
-  residue_number {r} {n} e = ap (val w) e ∙ w.num_of n
 
   -- What an option holds, or none.
   abbrev inner : Option (Option W) → Option W

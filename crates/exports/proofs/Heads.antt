@@ -1,6 +1,6 @@
 -- What the head of words tells of the sketch that they say.
 -- Assumes nothing.
-use Rattle.std.proofs.Common.{◌≡◌, ℕ, ◌+◌, ◌≤◌, Bool, true, false, cond, List, length, take, drop, Result, Ok, Err, sym, refl, ap, ◌∙◌, arith}
+use Rattle.std.proofs.Common.{◌≡◌, ◌+◌, ◌≤◌, Bool, true, false, List, length, take, drop, Result, Ok, Err, sym, refl, ap, ◌∙◌, arith}
 use Rattle.rules.specs.Sketch.{Last, nothing, code, WellFormed}
 use Rattle.rules.specs.Calls.{unless, given}
 use Rattle.rules.specs.Words.{head_words, words_fit, said_by}

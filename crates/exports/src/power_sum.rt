@@ -39,7 +39,12 @@ pub fn insert<W: Layout>(s: &mut [W], code: W) -> Result<(), Refusal>
     let head = words::head_of(s)?;
     let x = Residue::reduce(Code(code));
     let end = W::HEAD + head.threshold;
-    layout::put_head(s, head.threshold, head.count.wrapping_add(1), Some(x.value()));
+    layout::put_head(
+        s,
+        head.threshold,
+        head.count.wrapping_add(1),
+        Some(x.value()),
+    );
     powers::shift_by_powers(&mut s[W::HEAD..end], x, false);
     Ok(())
 }

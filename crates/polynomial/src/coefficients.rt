@@ -14,12 +14,11 @@ fn newton_sum<W: Word>(sums: &[W], coeffs: &[W]) -> W
         ≡ sum_to (λ (j : ℕ). get_or (W.width.nums sums.now) j 0 * get_or (W.width.nums coeffs.now) (length coeffs.now - j - 1) 0)
         (length coeffs.now) % W.width.kind.modulus }
 {
-    let i = coeffs.len();
-    let mut sum = W::zero();
-    for j in 0..i {
-        sum = sum.plus(sums[j].times(coeffs[i - j - 1]));
+    let mut total = W::zero();
+    for (sum, coeff) in sums.iter().zip(coeffs.iter().rev()) {
+        total = total.plus(sum.times(*coeff));
     }
-    sum
+    total
 }
 
 // As many coefficients as there are sums and places for them, over the front of a buffer. What it holds is read only where one has been written.

@@ -18,22 +18,21 @@ fn unreduced(coeffs: &[u16], x: u16) -> u64
     requires { (length coeffs.now ≤ kind16.greatest) × (x < kind16.modulus) }
     ensures { result % kind16.modulus ≡ evaluate kind16 coeffs.now x }
 {
-    let n = coeffs.len();
     let square = x.times(x);
     let mut power = 1;
     let mut next = x;
     let mut sum: u64 = 0;
-    let mut j: usize = 0;
-    while 1 < n - j {
-        sum += u64::from(coeffs[n - j - 1]) * u64::from(power);
-        sum += u64::from(coeffs[n - j - 2]) * u64::from(next);
+    let pairs = coeffs.rchunks_exact(2);
+    let single = pairs.remainder();
+    for pair in pairs {
+        sum += u64::from(pair[1]) * u64::from(power);
+        sum += u64::from(pair[0]) * u64::from(next);
         power = power.times(square);
         next = next.times(square);
-        j += 2;
     }
-    if j < n {
-        sum += u64::from(coeffs[0]) * u64::from(power);
-        return sum + u64::from(next);
+    if let Some(first) = single.first() {
+        sum += u64::from(*first) * u64::from(power);
+        power = next;
     }
     sum + u64::from(power)
 }

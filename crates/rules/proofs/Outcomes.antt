@@ -17,7 +17,7 @@ use Rattle.rules.specs.Decode as decoding
 use Rattle.rules.specs.Sums.{roots}
 use Rattle.rules.specs.Packet.{packet, sums_at, sums_in, sums_of, sketch_in}
 use Rattle.rules.specs.Calls.{Outcome, refused, given, unless, refusal_of, fitting, packed, make, insert, remove, sub_assign, sub}
-use Rattle.rules.specs.Calls.{negate, coefficients, evaluate, evaluate_once, decode, decode_surplus, write_with_hint, write, read}
+use Rattle.rules.specs.Calls.{negate, coefficients, evaluate, evaluate_once, decode, decode_surplus, write_with_hint, write, read, within, read_for}
 use Rattle.rules.specs.Words.{words_fit, said_by, words_of, in_words, into_words, new_in, insert_in, remove_in, sub_assign_in, sub_in}
 use Rattle.rules.specs.Words.{negate_in, coefficients_in, decode_in, decode_surplus_in, write_in, write_with_hint_in, read_in}
 use Rattle.rules.proofs.Each.{and_first, and_second}
@@ -274,6 +274,14 @@ module _ (K : Kind) where
       let next = given (sketch_in K bs) in
       unless_numbered (leb (sums_at K) (length bs)) 6 (unless range 7 (unless small 8 next)) refl
       (unless_numbered range 7 (unless small 8 next) refl (unless_numbered small 8 next refl tt))
+
+  within_numbered : (o : Outcome Sketch) (places : ℕ) → Numbered o → Numbered (within o places)
+  within_numbered (refused n) places h = h
+  within_numbered (given s) places h = unless_numbered (leb s.threshold places) 5 (given s) refl tt
+
+  -- Every refusal of reading into so many places is numbered.
+  pub read_for_numbered : (bs : List ℕ) (places : ℕ) → Numbered (read_for K bs places)
+  read_for_numbered bs places = within_numbered (read K bs) places (read_numbered bs)
 
   module _ (cs : List ℕ) (c : ℕ) where
     -- Every refusal of evaluate is numbered.

@@ -6,9 +6,10 @@ use Rattle.rules.specs.Words.{insert_in}
 use Rattle.rules.proofs.Outcomes.{insert_in_numbered}
 use Rattle.rules.proofs.Exported.{as_many, insert_misfit, insert_stores}
 use Rattle.modint.specs.Answers.{val}
+use Rattle.modint.proofs.Residues.{number}
 use Rattle.modint.proofs.Width.{nums_length}
 use Rattle.exports.proofs.Clauses.{refuses, stored}
-use Rattle.exports.proofs.Fronts.{few_before, part, put_back, residue_number}
+use Rattle.exports.proofs.Fronts.{few_before, part, put_back}
 use Rattle.exports.proofs.Heads.{Heads, heads, misfits}
 use Rattle.exports.proofs.power_sum.insert.Given.{Over}
 use Rattle.exports.proofs.power_sum.insert.Goals.{In_ok-head}
@@ -49,7 +50,7 @@ returns g c =
     let code = w.num c.args.code in
     let law = c.HEAD-2.ensures ∙ g.met.W.Layout.head in
     let h = head g (goal.at.returns g c).In_ok-head in
-    let x = residue_number w c.reduce-x.ensures in
+    let x = number w c.reduce-x.ensures in
     let after = c.put_head.new.words in
     let moved = c.shift_by_powers.ensures ∙ ap (λ (l : List ℕ). moved_by_powers w.kind false (val w c.reduce-x.result) l) (part w after law refl) in
     stored ws (insert_in w.kind ws code) (insert_in_numbered w.kind ws code) refl (put_back w after c.shift_by_powers.new.sums _ law)

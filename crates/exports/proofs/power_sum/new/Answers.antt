@@ -1,17 +1,15 @@
 -- The tests in the order of the refusals, and then a head and zeros.
-use Rattle.std.proofs.Common.{◌≡◌, ℕ, ◌+◌, ◌≤◌, true, List, length, replicate, refl, sym, ap, ◌∙◌, arith, le-leb}
+use Rattle.std.proofs.Common.{◌≡◌, ℕ, ◌+◌, ◌≤◌, true, length, replicate, refl, sym, ap, ◌∙◌, arith, le-leb}
 use Rattle.std.proofs.Math.Bool.{and-false}
 use Rattle.std.proofs.lemmas.Bool.{lt-leb}
 use Rattle.rules.specs.Sketch.{in_range}
 use Rattle.rules.specs.Words.{head_words, new_in}
 use Rattle.rules.proofs.Outcomes.{new_in_numbered}
-use Rattle.rules.proofs.Exported.{as_many, new_out_of_range, new_short, new_stores}
+use Rattle.rules.proofs.Exported.{new_out_of_range, new_short, new_stores}
 use Rattle.modint.specs.Width.{Width}
 use Rattle.modint.proofs.Width.{nums_length}
 use Rattle.exports.proofs.Clauses.{refuses, stored}
-use Rattle.exports.proofs.Fronts.{few_before, part, put_back, residue_number}
-use Rattle.exports.proofs.Heads.{Heads, heads, misfits}
-use Rattle.exports.proofs.power_sum.new.Given.{Over}
+use Rattle.exports.proofs.Fronts.{part, put_back}
 use Rattle.exports.proofs.power_sum.new.Goals.{then-threshold-lt1-via-then-threshold-lt1, then-threshold-lt1-via-else-threshold-lt1+then-threshold-gt-PLACES}
 use Rattle.exports.proofs.power_sum.new.Goals as goal
 
@@ -23,7 +21,7 @@ returns-then-threshold-lt1 g c =
     let w = g.W.Word.width in
     let t = c.args.threshold in
     refuses (w.nums c.args.out.now) refl (new_out_of_range w.kind t (length c.args.out.now) (elim c.then-threshold-lt1.branch [
-        then-threshold-lt1-via-then-threshold-lt1 v ↦ rw (lt-leb 1 t v.if-threshold-lt1.true)
+      | then-threshold-lt1-via-then-threshold-lt1 v ↦ rw (lt-leb 1 t v.if-threshold-lt1.true)
       | then-threshold-lt1-via-else-threshold-lt1+then-threshold-gt-PLACES v ↦
           rw (lt-leb t w.kind.greatest (omega (arith, w.places, v.if-threshold-gt-PLACES.true)), and-false)
     ]))

@@ -1,19 +1,19 @@
 -- Words that do not fit are refused; otherwise the count and the last code are stored, and the powers are taken from the sums where they stand.
-use Rattle.std.proofs.Common.{◌≡◌, ℕ, ◌+◌, ◌%◌, true, Err, List, refl, ap, ap₂, ◌∙◌, arith, rules}
+use Rattle.std.proofs.Common.{◌≡◌, ℕ, true, Err, List, refl, ap, ap₂, ◌∙◌, arith, rules}
 use Rattle.rules.specs.Kind.{counts}
 use Rattle.rules.specs.Field.{residue, difference}
 use Rattle.rules.specs.Sketch.{has_code, code_or0, last_without}
 use Rattle.rules.specs.Sums.{moved_by_powers}
 use Rattle.rules.specs.Words.{said_by, remove_in}
-use Rattle.rules.proofs.Field.{count_down}
 use Rattle.rules.proofs.Outcomes.{remove_in_numbered}
 use Rattle.rules.proofs.Words.{without_words}
 use Rattle.rules.proofs.Exported.{as_many, remove_misfit, remove_stores}
 use Rattle.modint.specs.Answers.{val}
+use Rattle.modint.proofs.Residues.{number}
 use Rattle.modint.proofs.Width.{nums_length}
 use Rattle.exports.specs.Heads.{last_of}
 use Rattle.exports.proofs.Clauses.{refuses, stored}
-use Rattle.exports.proofs.Fronts.{few_before, part, put_back, residue_number}
+use Rattle.exports.proofs.Fronts.{few_before, part, put_back}
 use Rattle.exports.proofs.Heads.{Heads, heads, misfits}
 use Rattle.exports.proofs.power_sum.remove.Given.{Over}
 use Rattle.exports.proofs.power_sum.remove.Goals.{In_ok-head}
@@ -54,7 +54,7 @@ returns g c =
     let code = w.num c.args.code in
     let law = c.HEAD-2.ensures ∙ g.met.W.Layout.head in
     let h = head g (goal.at.returns g c).In_ok-head in
-    let x = residue_number w c.reduce-x.ensures in
+    let x = number w c.reduce-x.ensures in
     let after = c.put_head.new.words in
     let moved = c.shift_by_powers.ensures ∙ ap (λ (l : List ℕ). moved_by_powers w.kind true (val w c.reduce-x.result) l) (part w after law refl) in
     let kept : last_of w c.without-last.result ≡ last_without (said_by w.kind ws).last (residue w.kind code) =

@@ -1,7 +1,5 @@
 -- The tests in the order of the refusals, and then a head and the differences of the sums that both have.
-use Rattle.std.proofs.Common.{◌≡◌, ℕ, ◌+◌, ◌≤◌, min, Err, List, length, refl, ap, ap₂, ◌∙◌, arith, rules}
-use Rattle.rules.specs.Kind.{counts}
-use Rattle.rules.specs.Field.{difference}
+use Rattle.std.proofs.Common.{◌≡◌, ℕ, ◌+◌, ◌≤◌, min, Err, length, refl, ap, ap₂, ◌∙◌, arith, rules}
 use Rattle.rules.specs.Sums.{copied, differences}
 use Rattle.rules.specs.Words.{head_words, sub_in}
 use Rattle.rules.proofs.Outcomes.{sub_in_numbered}

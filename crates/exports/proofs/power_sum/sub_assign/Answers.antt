@@ -1,7 +1,5 @@
 -- The tests in the order of the refusals, and then the sums are subtracted where they stand.
-use Rattle.std.proofs.Common.{◌≡◌, ℕ, Err, ◌++◌, List, length, drop, sym, refl, ap, ap₂, ◌∙◌, arith, rules}
-use Rattle.rules.specs.Kind.{counts}
-use Rattle.rules.specs.Field.{difference}
+use Rattle.std.proofs.Common.{◌≡◌, ℕ, Err, ◌++◌, List, drop, sym, refl, ap, ap₂, ◌∙◌, arith, rules}
 use Rattle.rules.specs.Sums.{common, differences}
 use Rattle.rules.specs.Words.{sub_assign_in}
 use Rattle.rules.proofs.Outcomes.{sub_assign_in_numbered}
