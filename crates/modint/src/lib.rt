@@ -76,6 +76,8 @@ impl<W: Word> Mul for Residue<W> {
 }
 
 impl<W: Word> Residue<W> {
+    pub const MODULUS: W = W::MODULUS;
+
     pub fn reduce(code: Code<W>) -> Residue<W>
         ensures { result ≡ wrap W.width (residue W.width.kind (W.width.num code.0)) }
     {

@@ -3,13 +3,42 @@ ghost use Rattle.std.specs.Prelude.{refl};
 ghost use Rattle.std.proofs.Common.{rules};
 ghost use Rattle.modint.specs.Width.{width16};
 
-use crate::PLACES;
 use crate::word::Word;
+use crate::{PLACES, Residue};
 
-const INVERSES: [u16; PLACES] = [
-    1, 32761, 43681, 49141, 52417, 54601, 56161, 57331, 58241, 58969, 11913, 60061, 60481, 60841,
-    61153, 61426, 42396, 61881, 6897, 62245, 62401, 38717, 11395, 62791, 49796, 63001, 41254,
-    63181, 58743, 63337, 25363, 30713,
+const INVERSES: [Residue<u16>; PLACES] = [
+    Residue(1),
+    Residue(32761),
+    Residue(43681),
+    Residue(49141),
+    Residue(52417),
+    Residue(54601),
+    Residue(56161),
+    Residue(57331),
+    Residue(58241),
+    Residue(58969),
+    Residue(11913),
+    Residue(60061),
+    Residue(60481),
+    Residue(60841),
+    Residue(61153),
+    Residue(61426),
+    Residue(42396),
+    Residue(61881),
+    Residue(6897),
+    Residue(62245),
+    Residue(62401),
+    Residue(38717),
+    Residue(11395),
+    Residue(62791),
+    Residue(49796),
+    Residue(63001),
+    Residue(41254),
+    Residue(63181),
+    Residue(58743),
+    Residue(63337),
+    Residue(25363),
+    Residue(30713),
 ];
 
 impl Word for u16 {
@@ -30,6 +59,8 @@ impl Word for u16 {
     ghost bytes = { refl };
 
     ghost small = { Prim.search rules };
+
+    ghost small_residue = { Prim.search rules };
 
     fn zero() -> u16 {
         0
@@ -96,7 +127,7 @@ impl Word for u16 {
         ((u32::from(self) * u32::from(other) + u32::from(term)) % u32::from(u16::MODULUS)) as u16
     }
 
-    fn inverses() -> [u16; PLACES] {
+    fn inverses() -> [Residue<u16>; PLACES] {
         INVERSES
     }
 }

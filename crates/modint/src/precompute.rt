@@ -12,7 +12,7 @@ pub fn inverse_at<W: Word>(i: usize) -> Residue<W>
 {
     let table = W::inverses();
     if i < table.len() {
-        return Residue(table[i]);
+        return table[i];
     }
     let below = W::low(i as u64 % W::MODULUS.number());
     (Code(below) + Code(W::one())).inv()

@@ -4,13 +4,41 @@ ghost use Rattle.std.proofs.Common.{rules};
 ghost use Rattle.modint.specs.Width.{width32};
 
 use crate::word::Word;
-use crate::{PLACES, folding};
+use crate::{PLACES, Residue, folding};
 
-const INVERSES: [u32; PLACES] = [
-    1, 2147483646, 1431655764, 1073741823, 3435973833, 715827882, 613566756, 2684354557, 477218588,
-    3865470562, 390451572, 357913941, 991146298, 306783378, 1145324611, 3489660924, 3284386752,
-    238609294, 4068916381, 1932735281, 204522252, 195225786, 2427590208, 2326440616, 2405181683,
-    495573149, 3022384390, 153391689, 3110148728, 2720145951, 138547332, 1744830462,
+const INVERSES: [Residue<u32>; PLACES] = [
+    Residue(1),
+    Residue(2147483646),
+    Residue(1431655764),
+    Residue(1073741823),
+    Residue(3435973833),
+    Residue(715827882),
+    Residue(613566756),
+    Residue(2684354557),
+    Residue(477218588),
+    Residue(3865470562),
+    Residue(390451572),
+    Residue(357913941),
+    Residue(991146298),
+    Residue(306783378),
+    Residue(1145324611),
+    Residue(3489660924),
+    Residue(3284386752),
+    Residue(238609294),
+    Residue(4068916381),
+    Residue(1932735281),
+    Residue(204522252),
+    Residue(195225786),
+    Residue(2427590208),
+    Residue(2326440616),
+    Residue(2405181683),
+    Residue(495573149),
+    Residue(3022384390),
+    Residue(153391689),
+    Residue(3110148728),
+    Residue(2720145951),
+    Residue(138547332),
+    Residue(1744830462),
 ];
 
 impl Word for u32 {
@@ -31,6 +59,8 @@ impl Word for u32 {
     ghost bytes = { refl };
 
     ghost small = { Prim.search rules };
+
+    ghost small_residue = { Prim.search rules };
 
     fn zero() -> u32 {
         0
@@ -86,7 +116,7 @@ impl Word for u32 {
         ((u64::from(self) * u64::from(other) + u64::from(term)) % u64::from(u32::MODULUS)) as u32
     }
 
-    fn inverses() -> [u32; PLACES] {
+    fn inverses() -> [Residue<u32>; PLACES] {
         INVERSES
     }
 }

@@ -2,9 +2,11 @@
 ghost use Rattle.std.specs.Prelude.{◌≡◌, ℕ, ◌<◌, ◌≤◌, ◌*◌, ◌%◌, ◌^◌, true, length, max, ltb, eqb};
 ghost use Rattle.std.specs.Mem.{type_size};
 ghost use Rattle.rules.specs.Field.{residue, plus, minus, times, inverses_right};
+ghost use Rattle.modint.specs.contracts.Residue.{the_row};
 ghost use Rattle.modint.specs.Width.{Width};
+ghost use Rattle.modint.specs.Answers.{val};
 
-use crate::PLACES;
+use crate::{PLACES, Residue};
 
 // The operations take words that are residues and words that are not; what they answer is a residue.
 pub trait Word: Copy + PartialEq {
@@ -57,8 +59,8 @@ pub trait Word: Copy + PartialEq {
         ensures { width.num result ≡ plus width.kind (width.num self * width.num other) (width.num term) };
 
     // Entry i is the inverse of i + 1.
-    fn inverses() -> [Self; PLACES]
-        ensures right { inverses_right width.kind width.num result ≡ true }
+    fn inverses() -> [Residue<Self>; PLACES]
+        ensures right { inverses_right width.kind (val width) result ≡ true }
         ensures all { length result ≡ 32 };
 
     // Words are equal where their numbers are.
@@ -70,4 +72,7 @@ pub trait Word: Copy + PartialEq {
 
     // A word has no more bytes than a number of 64 bits.
     ghost small: { type_size Self.row ≤ 8 };
+
+    // Nor has a residue.
+    ghost small_residue: { type_size (the_row Self.row) ≤ 8 };
 }

@@ -7,7 +7,8 @@ use Rattle.rules.proofs.Multiplications.{multiplications_step, digits}
 use Rattle.modint.specs.declared.Residue.{Residue}
 use Rattle.modint.specs.declared.Powered.{Powered}
 use Rattle.modint.specs.Width.{Width}
-use Rattle.modint.specs.Answers.{val, wrap, powered}
+use Rattle.modint.specs.Answers.{val, powered}
+use Rattle.modint.proofs.Residues.{number}
 use Rattle.modint.proofs.Residue.+raised.Goals as goal
 
 module _ {W : Type 0} (w : Width W) where
@@ -17,10 +18,6 @@ module _ {W : Type 0} (w : Width W) where
   made b e {v} {n} ev en =
       let word : v.0 ≡ w.of (power w.kind b e) = sym (w.of_num v.0) ∙ ap w.of ev in
       ap₂ (λ (x : W) (n : ℕ). record { value = record { 0 = x }; multiplications = n }) word en
-
-  -- The number of a residue with a number.
-  number : {r : Residue W} {n : ℕ} → r ≡ wrap w n → val w r ≡ n
-  number {r} {n} e = ap (val w) e ∙ w.num_of n
 
   -- The counts of an exponent from 2 on, from those of its half.
   module _ (b e : ℕ) (large : 2 ≤ e) {half : Powered W} (h : half ≡ powered w b (e / 2)) where
