@@ -10,20 +10,23 @@ use lib.ListN.{length, take}
 use lib.Seq.{take-append_seam}
 use borrow.Author.Tests.{le-leb}
 use Rattle.std.specs.Prelude.{min, Result, Ok, Err}
+use Rattle.std.specs.Result.{result_unwrap_or}
 use Rattle.rules.specs.Kind.{kind32}
 use Rattle.rules.specs.Calls.{written, fitting}
 use Rattle.desk_rules.specs.Desk.{most_lines}
 use Rattle.desk_rules.specs.Text.{desk_answer}
 use Rattle.desk_rules.proofs.Desk.{state_after}
-use Rattle.lent.specs.declared.Number.{Number}
-use Rattle.lent.specs.Answers.{numbered}
+use Rattle.std.specs.declared.ops.ControlFlow.{ControlFlow}
+use Rattle.std.specs.declared.ops.ControlFlow.TheVariants.{Break, Continue}
+use Rattle.lent.specs.declared.refusal.Refusal.{Refusal}
+use Rattle.lent.specs.Refusals.{listed}
 use Rattle.desk_reader.specs.declared.Reading.{Reading}
 use Rattle.desk_reader.specs.Reader.{Standing, standing, byte_of, fed_of, start_of, enough_places, feed_answer, feed_log, feed_got}
 use Rattle.desk_reader.proofs.Meaning.{Tied, tied_start, enough_places_lem, tied_feed}
 use Rattle.desk_text.specs.Answer.{finish_of}
 use Rattle.desk_text.proofs.Meaning.{tied_finish}
 use Rattle.desk_text.proofs.Promise.{long_enough}
-use Rattle.desk.specs.Input.{room, over, goes_on, after_read, log_after_read, got_after_read, Came, Answered}
+use Rattle.desk.specs.Input.{room, after_read, log_after_read, got_after_read, Came, Answered}
 
 -- ---- what came
 
@@ -42,6 +45,11 @@ came_start log got places got_places e =
       entries = rw enough;
       arrived = rw enough;
     }
+
+-- The reading after a read, whether or not there may be more.
+abbrev pub stands : ControlFlow Reading Reading → Reading
+stands (Break r) = r
+stands (Continue r) = r
 
 -- A reading and its lists that some bytes lead to.
 module _ {r : Reading} {log got : List ℕ} (k : Came r log got) where
@@ -73,7 +81,7 @@ module _ {r : Reading} {log got : List ℕ} (k : Came r log got) where
   came_bytes = rw (k.reading, k.entries, k.arrived, came_first)
 
   -- A piece more.
-  pub came_piece : (piece : List ℕ) → Came (feed_answer r log got piece).reading (feed_log r log got piece) (feed_got r log got piece)
+  pub came_piece : (piece : List ℕ) → Came (result_unwrap_or (feed_answer r log got piece) r) (feed_log r log got piece) (feed_got r log got piece)
   unfolding feed_answer feed_log feed_got
   came_piece piece =
       let joined : fed_of (standing r log got) piece ≡ fed_of (standing start_of k.before k.got_before) (k.bytes ++ piece) =
@@ -91,26 +99,27 @@ module _ {r : Reading} {log got : List ℕ} (k : Came r log got) where
 
   -- With none, or a piece more.
   came_moved : (none : Bool) (piece : List ℕ)
-      → Came (cond none (over r) (goes_on (feed_answer r log got piece).reading)).reading (cond none log (feed_log r log got piece))
+      → Came (stands (cond none (Break r) (Continue (result_unwrap_or (feed_answer r log got piece) r)))) (cond none log (feed_log r log got piece))
       (cond none got (feed_got r log got piece))
   came_moved true piece = k
   came_moved false piece = came_piece piece
 
-  -- After one more read.
-  pub came_read : {E : Type 0} (told : Result ℕ E) (piece : List ℕ)
-      → Came (after_read r log got told piece).reading (log_after_read r log got told piece) (got_after_read r log got told piece)
+  -- After one more read, what its answer and the lent lists then are.
+  pub came_read : {E : Type 0} (told : Result ℕ E) (piece : List ℕ) {flow : ControlFlow Reading Reading} {log' got' : List ℕ}
+      → flow ≡ after_read r log got told piece → log' ≡ log_after_read r log got told piece → got' ≡ got_after_read r log got told piece
+      → Came (stands flow) log' got'
   unfolding after_read log_after_read got_after_read
-  came_read (Ok n) piece = came_moved (eqb (min n (length piece)) 0) (take (min n (length piece)) piece)
-  came_read (Err e) piece = came_start log got came_places came_got_places refl
+  came_read (Ok n) piece e f g = rw (e, f, g) (came_moved (eqb (min n (length piece)) 0) (take (min n (length piece)) piece))
+  came_read (Err x) piece e f g = rw (e, f, g) (came_start log got came_places came_got_places refl)
 
   -- ---- what is written
 
   -- The answer to the bytes that came, whole.
-  pub answered : (out : List ℕ) {out₁ : List ℕ} {z : Number} → room ≤ length out → z ≡ numbered (finish_of r log got (length out))
-      → out₁ ≡ written (finish_of r log got (length out)) out → Answered z.value out₁
+  pub answered : (out : List ℕ) {out₁ : List ℕ} {z : Result ℕ Refusal} → room ≤ length out → z ≡ listed (finish_of r log got (length out))
+      → out₁ ≡ written (finish_of r log got (length out)) out → Answered (take (result_unwrap_or z 0) out₁)
   answered out l e f =
       let text = desk_answer kind32 k.bytes in
       let all : finish_of r log got (length out) ≡ fitting text (length out) = tied_finish k.bytes r log got came_tied (length out) in
       let within : length text ≤ length out = omega (arith, long_enough k.bytes) in
       let fits = le-leb (length text) (length out) within in
-      record { bytes = k.bytes; text = rw (e, f, all, fits) (take-append_seam text _); long = rw (e, all, fits) }
+      record { bytes = k.bytes; text = rw (e, f, all, fits) (take-append_seam text _) }

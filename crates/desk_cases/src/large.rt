@@ -1,187 +1,159 @@
-// Inputs near the limits, built in a buffer.
-ghost use Rattle.std.specs.Prelude.{◌≤◌, length};
-ghost use Rattle.desk_text.specs.Writer.{Within};
+// Inputs near the limits.
+ghost use Rattle.std.specs.Iterator.{IsFinite};
 
-use crate::tally;
 use crate::tally::Tally;
-use itoa::Buffer;
+use crate::text::{Text, put_lines};
+use std::io;
+use std::io::Write;
+use std::iter::repeat_n;
 
-// Puts bytes behind the first `at` of a buffer, where there is room for them. Answers where they end.
-fn push(out: &mut [u8], at: usize, added: &[u8]) -> usize
-    requires { at ≤ length out.old }
-    ensures { Within result out.new }
+// The threshold, a log line and a got line for each of these numbers, and then some other text.
+fn input<L, G>(threshold: u32, logs: L, gots: G, rest: &str) -> io::Result<Text>
+where
+    L: Iterator<Item = u32> + Drop,
+    G: Iterator<Item = u32> + Drop,
+    requires logs_can { L.can_next logs }
+    requires logs_end { IsFinite (L.remaining logs) }
+    requires gots_can { G.can_next gots }
+    requires gots_end { IsFinite (G.remaining gots) }
 {
-    if added.len() > out.len() - at {
-        return at;
-    }
-    let end = at + added.len();
-    out[at..end].copy_from_slice(added);
-    end
+    let mut text = Text::new();
+    writeln!(text, "threshold={threshold}")?;
+    put_lines(&mut text, "log", logs)?;
+    put_lines(&mut text, "got", gots)?;
+    text.write_all(rest.as_bytes())?;
+    Ok(text)
 }
 
-fn push_line(out: &mut [u8], at: usize, word: &[u8], n: u32) -> usize
-    requires { at ≤ length out.old }
-    ensures { Within result out.new }
+// The first lines of an answer, and then a line of a word for each of these numbers.
+fn answer<N>(head: &str, word: &str, numbers: N) -> io::Result<Text>
+where
+    N: Iterator<Item = u32> + Drop,
+    requires can { N.can_next numbers }
+    requires ends { IsFinite (N.remaining numbers) }
 {
-    let mut digits = Buffer::new();
-    let number = push(&mut *out, at, word);
-    let end = push(&mut *out, number, digits.format(n).as_bytes());
-    push(out, end, b"\n")
-}
-
-// `many` lines of a word, the first with the number `from`, and each next with one that is greater by `step`.
-fn push_lines(out: &mut [u8], at: usize, word: &[u8], from: u32, step: u32, many: u32) -> usize
-    requires { at ≤ length out.old }
-    ensures { Within result out.new }
-{
-    let mut end = at;
-    let mut n = from;
-    for _i in 0..many {
-        end = push_line(&mut *out, end, word, n);
-        n = std::num::wrapping_add_u32(n, step);
-    }
-    end
-}
-
-// The threshold 32, and `many` log lines with the numbers from `from` on.
-fn push_logs(out: &mut [u8], from: u32, many: u32) -> usize
-    ensures { Within result out.new }
-{
-    let end = push(&mut *out, 0, b"threshold=32\n");
-    push_lines(out, end, b"log=", from, 1, many)
-}
-
-// An input to which `head` and then `many` lines of a word should be written.
-fn listing(
-    t: Tally,
-    input: &[u8],
-    head: &[u8],
-    word: &[u8],
-    from: u32,
-    step: u32,
-    many: u32,
-) -> Tally {
-    let mut expected = tally::buffer();
-    let a = push(&mut expected, 0, head);
-    let end = push_lines(&mut expected, a, word, from, step, many);
-    t.case(input, &expected[..end])
+    let mut text = Text::new();
+    text.write_all(head.as_bytes())?;
+    put_lines(&mut text, word, numbers)?;
+    Ok(text)
 }
 
 // As many log lines as there may be, all but one of them got.
-pub(crate) fn all_but_one(t: Tally) -> Tally {
-    let mut input = tally::buffer();
-    let a = push_logs(&mut input, 0, 8192);
-    let b = push_lines(&mut input, a, b"got=", 0, 1, 5000);
-    let end = push_lines(&mut input, b, b"got=", 5001, 1, 3191);
-    t.case(
-        &input[..end],
-        b"refusal=0\nthreshold=32\ncount=1\nfound=1\nmissing=5000\n",
-    )
+fn all_but_one(tally: &mut Tally) -> io::Result<()> {
+    let input = input(32, 0..8192, (0..5000).chain(5001..8192), "")?;
+    let expected = b"refusal=0\nthreshold=32\ncount=1\nfound=1\nmissing=5000\n";
+    tally.case(input.as_slice(), expected);
+    Ok(())
 }
 
 // As many log lines as there may be, all of one code, and one of them lacking: every one is listed.
-pub(crate) fn all_the_same(t: Tally) -> Tally {
-    let mut input = tally::buffer();
-    let a = push(&mut input, 0, b"threshold=1\n");
-    let b = push_lines(&mut input, a, b"log=", 4294967295, 0, 8192);
-    let end = push_lines(&mut input, b, b"got=", 4294967295, 0, 8191);
-    let head = b"refusal=0\nthreshold=1\ncount=1\nfound=8192\n";
-    listing(t, &input[..end], head, b"missing=", 4294967295, 0, 8192)
+fn all_the_same(tally: &mut Tally) -> io::Result<()> {
+    let code = u32::MAX;
+    let input = input(1, repeat_n(code, 8192), repeat_n(code, 8191), "")?;
+    let head = "refusal=0\nthreshold=1\ncount=1\nfound=8192\n";
+    let expected = answer(head, "missing", repeat_n(code, 8192))?;
+    tally.case(input.as_slice(), expected.as_slice());
+    Ok(())
 }
 
 // As many missing as the greatest threshold allows.
-pub(crate) fn all_missing(t: Tally) -> Tally {
-    let mut input = tally::buffer();
-    let a = push_logs(&mut input, 1, 40);
-    let end = push_lines(&mut input, a, b"got=", 1, 1, 8);
-    let head = b"refusal=0\nthreshold=32\ncount=32\nfound=32\n";
-    listing(t, &input[..end], head, b"missing=", 9, 1, 32)
+fn all_missing(tally: &mut Tally) -> io::Result<()> {
+    let input = input(32, 1..41, 1..9, "")?;
+    let head = "refusal=0\nthreshold=32\ncount=32\nfound=32\n";
+    let expected = answer(head, "missing", 9..41)?;
+    tally.case(input.as_slice(), expected.as_slice());
+    Ok(())
 }
 
 // One more than that.
-pub(crate) fn one_too_many_missing(t: Tally) -> Tally {
-    let mut input = tally::buffer();
-    let end = push_logs(&mut input, 1, 33);
-    t.case(&input[..end], b"refusal=4\n")
-}
-
-// Log line 8,193, and then some other bytes.
-fn after_the_last(t: Tally, bytes: &[u8], expected: &[u8]) -> Tally {
-    let mut input = tally::buffer();
-    let a = push_logs(&mut input, 0, 8192);
-    let end = push(&mut input, a, bytes);
-    t.case(&input[..end], expected)
+fn one_too_many_missing(tally: &mut Tally) -> io::Result<()> {
+    let input = input(32, 1..34, 0..0, "")?;
+    tally.case(input.as_slice(), b"refusal=4\n");
+    Ok(())
 }
 
 // What may stand behind log line 8,192: no further log line, and on one line 9 comes before 10.
-pub(crate) fn one_line_too_many(t: Tally) -> Tally {
-    let bad: &[u8] = b"refusal=9\n";
-    let too_many: &[u8] = b"refusal=10\n";
-    let t = after_the_last(t, b"", b"refusal=4\n");
-    let t = after_the_last(t, b"log=8192\n", too_many);
-    let t = after_the_last(t, b"log=08192\n", bad);
-    let t = after_the_last(t, b"log=8192\nlog=x\n", too_many);
-    let t = after_the_last(t, b"log=8192", bad);
-    after_the_last(t, b"got=1\nlog=8192\n", bad)
+fn one_line_too_many(tally: &mut Tally) -> io::Result<()> {
+    let cases = [
+        ("", "refusal=4\n"),
+        ("log=8192\n", "refusal=10\n"),
+        ("log=08192\n", "refusal=9\n"),
+        ("log=8192\nlog=x\n", "refusal=10\n"),
+        ("log=8192", "refusal=9\n"),
+        ("got=1\nlog=8192\n", "refusal=9\n"),
+    ];
+    for (rest, expected) in cases {
+        let input = input(32, 0..8192, 0..0, rest)?;
+        tally.case(input.as_slice(), expected.as_bytes());
+    }
+    Ok(())
 }
 
 // As many got lines as there may be, and as many of them surplus as the greatest threshold allows.
-pub(crate) fn all_surplus(t: Tally) -> Tally {
-    let mut input = tally::buffer();
-    let a = push_logs(&mut input, 0, 8160);
-    let end = push_lines(&mut input, a, b"got=", 0, 1, 8192);
-    let head = b"refusal=0\nthreshold=32\ncount=-32\nfound=32\n";
-    listing(t, &input[..end], head, b"surplus=", 8160, 1, 32)
+fn all_surplus(tally: &mut Tally) -> io::Result<()> {
+    let input = input(32, 0..8160, 0..8192, "")?;
+    let head = "refusal=0\nthreshold=32\ncount=-32\nfound=32\n";
+    let expected = answer(head, "surplus", 8160..8192)?;
+    tally.case(input.as_slice(), expected.as_slice());
+    Ok(())
 }
 
 // The same with one code for all: every got code is listed, in the longest answer that there is.
-pub(crate) fn all_surplus_the_same(t: Tally) -> Tally {
-    let mut input = tally::buffer();
-    let a = push(&mut input, 0, b"threshold=32\n");
-    let b = push_lines(&mut input, a, b"log=", 4294967295, 0, 8160);
-    let end = push_lines(&mut input, b, b"got=", 4294967295, 0, 8192);
-    let head = b"refusal=0\nthreshold=32\ncount=-32\nfound=8192\n";
-    listing(t, &input[..end], head, b"surplus=", 4294967295, 0, 8192)
+fn all_surplus_the_same(tally: &mut Tally) -> io::Result<()> {
+    let code = u32::MAX;
+    let input = input(32, repeat_n(code, 8160), repeat_n(code, 8192), "")?;
+    let head = "refusal=0\nthreshold=32\ncount=-32\nfound=8192\n";
+    let expected = answer(head, "surplus", repeat_n(code, 8192))?;
+    tally.case(input.as_slice(), expected.as_slice());
+    Ok(())
 }
 
 // One surplus more than the greatest threshold allows.
-pub(crate) fn one_too_many_surplus(t: Tally) -> Tally {
-    let mut input = tally::buffer();
-    let a = push_logs(&mut input, 0, 8159);
-    let end = push_lines(&mut input, a, b"got=", 0, 1, 8192);
-    t.case(&input[..end], b"refusal=4\n")
-}
-
-// As many log lines and got lines as there may be, and then some other bytes.
-fn after_the_last_got(t: Tally, bytes: &[u8], expected: &[u8]) -> Tally {
-    let mut input = tally::buffer();
-    let a = push_logs(&mut input, 0, 8192);
-    let b = push_lines(&mut input, a, b"got=", 0, 1, 8192);
-    let end = push(&mut input, b, bytes);
-    t.case(&input[..end], expected)
+fn one_too_many_surplus(tally: &mut Tally) -> io::Result<()> {
+    let input = input(32, 0..8159, 0..8192, "")?;
+    tally.case(input.as_slice(), b"refusal=4\n");
+    Ok(())
 }
 
 // What may stand behind got line 8,192: no further got line, and the first bad line decides.
-pub(crate) fn one_got_line_too_many(t: Tally) -> Tally {
-    let bad: &[u8] = b"refusal=9\n";
-    let too_many: &[u8] = b"refusal=10\n";
-    let t = after_the_last_got(t, b"", b"refusal=0\nthreshold=32\ncount=0\nfound=0\n");
-    let t = after_the_last_got(t, b"got=8192\n", too_many);
-    let t = after_the_last_got(t, b"got=08192\n", bad);
-    let t = after_the_last_got(t, b"got=8192\ngot=x\n", too_many);
-    let t = after_the_last_got(t, b"got=x\ngot=8192\n", bad);
-    let t = after_the_last_got(t, b"log=8192\n", bad);
-    after_the_last_got(t, b"got=8192", bad)
+fn one_got_line_too_many(tally: &mut Tally) -> io::Result<()> {
+    let cases = [
+        ("", "refusal=0\nthreshold=32\ncount=0\nfound=0\n"),
+        ("got=8192\n", "refusal=10\n"),
+        ("got=08192\n", "refusal=9\n"),
+        ("got=8192\ngot=x\n", "refusal=10\n"),
+        ("got=x\ngot=8192\n", "refusal=9\n"),
+        ("log=8192\n", "refusal=9\n"),
+        ("got=8192", "refusal=9\n"),
+    ];
+    for (rest, expected) in cases {
+        let input = input(32, 0..8192, 0..8192, rest)?;
+        tally.case(input.as_slice(), expected.as_bytes());
+    }
+    Ok(())
 }
 
 // A number of very many digits, and a word of very many bytes.
-pub(crate) fn long_lines(t: Tally) -> Tally {
+fn long_lines(tally: &mut Tally) {
     let mut number = [b'1'; 4000];
-    push(&mut number, 0, b"threshold=");
+    number[..10].copy_from_slice(b"threshold=");
     number[3999] = b'\n';
     let mut word = [b't'; 4000];
     word[3999] = b'\n';
-    let bad: &[u8] = b"refusal=9\n";
-    let t = t.case(&number, bad);
-    t.case(&word, bad)
+    tally.case(&number, b"refusal=9\n");
+    tally.case(&word, b"refusal=9\n");
+}
+
+pub(crate) fn inputs(tally: &mut Tally) -> io::Result<()> {
+    all_but_one(tally)?;
+    all_the_same(tally)?;
+    all_missing(tally)?;
+    one_too_many_missing(tally)?;
+    one_line_too_many(tally)?;
+    all_surplus(tally)?;
+    all_surplus_the_same(tally)?;
+    one_too_many_surplus(tally)?;
+    one_got_line_too_many(tally)?;
+    long_lines(tally);
+    Ok(())
 }

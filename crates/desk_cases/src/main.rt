@@ -5,24 +5,17 @@
 mod large;
 mod listed;
 mod tally;
+mod text;
 
 use crate::tally::Tally;
 use std::io;
 
-fn large_inputs(t: Tally) -> Tally {
-    let t = large::all_but_one(t);
-    let t = large::all_the_same(t);
-    let t = large::all_missing(t);
-    let t = large::one_too_many_missing(t);
-    let t = large::one_line_too_many(t);
-    let t = large::all_surplus(t);
-    let t = large::all_surplus_the_same(t);
-    let t = large::one_too_many_surplus(t);
-    let t = large::one_got_line_too_many(t);
-    large::long_lines(t)
-}
-
 fn main(rt: HostRuntime) -> io::Result<()> {
-    let t = large_inputs(listed::inputs(&mut rt.stdin(), Tally::new())?);
-    println!(rt; "{} inputs, {} differences", t.inputs, t.differences)
+    let mut tally = Tally::default();
+    listed::inputs(&mut rt.stdin(), &mut tally)?;
+    large::inputs(&mut tally)?;
+    println!(rt;
+        "{} inputs, {} differences",
+        tally.inputs, tally.differences
+    )
 }

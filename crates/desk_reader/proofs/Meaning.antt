@@ -1,14 +1,15 @@
 -- The reader stands where the rules stand, whatever the pieces.
 -- Assumes nothing.
-use Prim.Native.Nat.{ℕ, suc, ◌≤◌, ◌<◌, zero-le}
+use Prim.Native.Nat.{ℕ, ◌≤◌, ◌<◌, zero-le}
 use mathlib.Core.Path.{◌≡◌, refl, ap, sym, ◌∙◌}
 use mathlib.Core.Bool.{Bool, true, false, cond}
 use mathlib.Core.List.{List, [], ◌∷◌, ◌++◌, foldl, foldl-append}
 use native.Mathlib.Numerals.{add-one}
 use native.Mathlib.Omega.{arith}
 use lib.Dec.{eqb, ltb}
-use lib.ListN.{length, take, set, length-append}
+use lib.ListN.{length, take, set}
 use lib.Seq.{take-suc-set}
+use Rattle.std.proofs.lemmas.List.{length_push}
 use borrow.Author.Tests.{ltb-true, le-leb}
 use Rattle.rules.specs.Kind.{kind32}
 use Rattle.rules.specs.Sketch as sketch
@@ -20,14 +21,21 @@ use Rattle.desk_rules.specs.Desk.{most_lines, Seen, unbegun, logs, gots, stopped
 use Rattle.rules.proofs.WellFormed.{fresh_well_formed, insert_well_formed, in_range_parts}
 use Rattle.desk_rules.proofs.Desk as rules
 use Rattle.desk_rules.proofs.Desk.{State, state_after}
-use Rattle.power_sum32.specs.declared.power_sum.Answer.{Answer}
-use Rattle.power_sum32.specs.Answers.{built, empty, answered, sketch_answer, new_of, insert_of}
-use Rattle.power_sum32.proofs.Struct.{view_built, built_well_formed}
-use Rattle.desk_reader.specs.declared.Key.TheVariants.{Threshold, Log, Got}
-use Rattle.desk_reader.specs.declared.Line.{Line}
-use Rattle.desk_reader.specs.declared.Line.TheVariants.{Fresh, Word, Value, Bad}
-use Rattle.desk_reader.specs.declared.Phase.TheVariants.{Unbegun, Logs, Gots, Stopped}
-use Rattle.desk_reader.specs.declared.Desk.{Desk}
+use Rattle.std.specs.Prelude.{Result, Ok}
+use Rattle.modint.specs.Width.{width32}
+use Rattle.power_sum.specs.Answers as any
+use Rattle.desk_reader.specs.Sketches.{Quack, built, insert_of}
+use Rattle.lent.specs.declared.refusal.Refusal.{Refusal}
+use Rattle.lent.specs.declared.refusal.Refusal.TheVariants.{TooManyLines}
+use Rattle.lent.specs.Refusals as refusals
+use Rattle.lent.specs.Refusals.{number_of, refusal_numbered}
+use Rattle.std.specs.Result.{result_unwrap_or}
+use Rattle.power_sum.proofs.Struct.{view_built, built_well_formed}
+use Rattle.desk_reader.specs.declared.bytes.Key.TheVariants.{Threshold, Log, Got}
+use Rattle.desk_reader.specs.declared.bytes.Line.{Line}
+use Rattle.desk_reader.specs.declared.bytes.Line.TheVariants.{Fresh, Word, Value, Bad}
+use Rattle.desk_reader.specs.declared.lines.Phase.TheVariants.{Unbegun, Logs, Gots, Stopped}
+use Rattle.desk_reader.specs.declared.lines.Desk.{Desk}
 use Rattle.desk_reader.specs.declared.Reading.{Reading}
 use Rattle.desk_reader.specs.Reader.{line_byte, empty_desk, started_desk, coded, log_desk, got_desk, take_line, taken_log, taken_got, Standing, standing}
 use Rattle.desk_reader.specs.Reader.{line_taken, byte_taken, byte_of, fed_of, start_of, enough_places, feed_answer, feed_log, feed_got}
@@ -69,14 +77,16 @@ codes_more : (T : ℕ) (l : List ℕ) (c : ℕ) → codes T (l ++ (c ∷ [])) �
 codes_more T l c = foldl-append (sketch.insert kind32) (sketch.fresh T) l (c ∷ [])
 
 -- Insert on the struct of a well-formed sketch is the rule on the sketch.
-insert_built : (g : Sketch) (c : ℕ) → WellFormed kind32 g → insert_of (built g) (coded c) ≡ answered 0 (built (sketch.insert kind32 g c))
-unfolding insert_of calls.insert
-insert_built g c w = rw (built_well_formed g w, view_built g w)
+insert_built : (g : Sketch) (c : ℕ) → WellFormed kind32 g → insert_of (built g) (coded c) ≡ Ok (built (sketch.insert kind32 g c))
+unfolding any.insert_of calls.insert
+insert_built g c w = rw (built_well_formed width32 g w, view_built width32 g w)
 
 -- One code more, by the call.
-insert_more : (T : ℕ) (l : List ℕ) (c : ℕ) → InRange T → (insert_of (built (codes T l)) (coded c)).sketch ≡ built (codes T (l ++ (c ∷ [])))
+insert_more : (T : ℕ) (l : List ℕ) (c : ℕ) → InRange T
+    → result_unwrap_or (insert_of (built (codes T l)) (coded c)) (built (codes T l)) ≡ built (codes T (l ++ (c ∷ [])))
 insert_more T l c r =
-    ap (λ (a : Answer). a.sketch) (insert_built (codes T l) c (codes_well_formed T l r)) ∙ ap built (sym (codes_more T l c))
+    ap (λ (a : Result Quack Refusal). result_unwrap_or a (built (codes T l))) (insert_built (codes T l) c (codes_well_formed T l r))
+    ∙ ap built (sym (codes_more T l c))
 
 -- ---- where the reader stands
 
@@ -85,7 +95,7 @@ abbrev desk_of : Seen → Desk
 desk_of unbegun = empty_desk Unbegun
 desk_of (logs T l) = record { phase = Logs; entries = length l; gots = 0; sent = built (codes T l); arrived = built (codes T []) }
 desk_of (gots T l g) = record { phase = Gots; entries = length l; gots = length g; sent = built (codes T l); arrived = built (codes T g) }
-desk_of (stopped n) = empty_desk (Stopped n)
+desk_of (stopped n) = empty_desk (Stopped (refusal_numbered n))
 
 -- The log codes of these lines.
 abbrev entries_of : Seen → List ℕ
@@ -101,12 +111,12 @@ gots_of (logs T l) = []
 gots_of (gots T l g) = g
 gots_of (stopped n) = []
 
--- Their threshold, where they have one, is in range.
+-- Their threshold, where they have one, is in range; and the number of their refusal, where there is one, is a refusal's.
 abbrev Ranged : Seen → Type 0
 Ranged unbegun = Unit {0}
 Ranged (logs T l) = InRange T
 Ranged (gots T l g) = InRange T
-Ranged (stopped n) = Unit {0}
+Ranged (stopped n) = number_of (refusal_numbered n) ≡ n
 
 -- The whole lines: the desk, and the entries and the got codes at the front of the lent lists.
 pub record Holds (s : Seen) (d : Desk) (log got : List ℕ) : Type 0 where
@@ -134,91 +144,87 @@ entries_few (stopped n) d log got h = rw h.desk (zero-le, zero-le)
 -- ---- a whole line
 
 -- A refusal holds with any lists.
-holds_stopped : (n : ℕ) (log got : List ℕ) → Holds (stopped n) (empty_desk (Stopped n)) log got
-holds_stopped n log got = record { desk = refl; entries = refl; arrived = refl; few = zero-le; few_gots = zero-le; ranged = tt }
+holds_stopped : (n : ℕ) (log got : List ℕ) → number_of (refusal_numbered n) ≡ n → Holds (stopped n) (desk_of (stopped n)) log got
+holds_stopped n log got numbered = record { desk = refl; entries = refl; arrived = refl; few = zero-le; few_gots = zero-le; ranged = numbered }
 
 -- A threshold line: a fresh sketch, or the refusal 1.
 holds_started : (T : ℕ) (log got : List ℕ) (ok : Bool) → in_range kind32 T ≡ ok
-    → Holds (cond ok (logs T []) (stopped 1)) (started_desk (sketch_answer empty (unless ok 1 (given (sketch.fresh T))))) log got
+    → Holds (cond ok (logs T []) (stopped 1)) (started_desk (refusals.answered built (unless ok 1 (given (sketch.fresh T))))) log got
 holds_started T log got true e =
     record { desk = refl; entries = refl; arrived = refl; few = zero-le; few_gots = zero-le; ranged = in_range_parts kind32 T e }
-holds_started T log got false e = holds_stopped 1 log got
+holds_started T log got false e = holds_stopped 1 log got refl
 
 -- One more stored behind the first of a list.
 one_stored : (c : ℕ) (l list : List ℕ) → take (length l) list ≡ l → length l < length list
     → take (length (l ++ (c ∷ []))) (set list (length l) c) ≡ l ++ (c ∷ [])
-one_stored c l list front within =
-    let one_more : length (l ++ (c ∷ [])) ≡ suc (length l) = rw length-append (omega arith) in
-    rw (one_more, take-suc-set list (length l) c within, front)
+one_stored c l list front within = rw (length_push l c, add-one, take-suc-set list (length l) c within, front)
 
 -- One code more, where the lists' first places hold the entries and the got codes so far.
 module _ (T c : ℕ) (l log got : List ℕ) (front : take (length l) log ≡ l) (few : length l ≤ most_lines) (range : InRange T) where
   -- A log line: the code is stored behind them, or the refusal 10.
   holds_logged : (room : Bool) → ltb (length l) most_lines ≡ room → most_lines ≤ length log
-      → Holds (cond room (logs T (l ++ (c ∷ []))) (stopped 10)) (cond room (log_desk (desk_of (logs T l)) c) (empty_desk (Stopped 10)))
+      → Holds (cond room (logs T (l ++ (c ∷ []))) (stopped 10)) (cond room (log_desk (desk_of (logs T l)) c) (empty_desk (Stopped TooManyLines)))
       (cond room (set log (length l) c) log) got
   holds_logged true e places =
       let more = ltb-true (length l) most_lines e in
-      let one_more : length (l ++ (c ∷ [])) ≡ suc (length l) = rw length-append (omega arith) in
       let within : length l < length log = omega arith in
       record {
-        desk = rw (insert_more T l c range, one_more, add-one);
+        desk = rw (insert_more T l c range, length_push l c);
         entries = one_stored c l log front within;
         arrived = refl;
-        few = omega arith;
+        few = omega (arith, length_push l c);
         few_gots = zero-le;
         ranged = range;
       }
-  holds_logged false e places = holds_stopped 10 log got
+  holds_logged false e places = holds_stopped 10 log got refl
 
   -- A got line: the log stays, and the code is stored behind the got codes, or the refusal 10.
   holds_got : (g : List ℕ) → take (length g) got ≡ g → (room : Bool) → ltb (length g) most_lines ≡ room → most_lines ≤ length got
-      → Holds (cond room (gots T l (g ++ (c ∷ []))) (stopped 10)) (cond room (got_desk (desk_of (gots T l g)) c) (empty_desk (Stopped 10))) log
+      → Holds (cond room (gots T l (g ++ (c ∷ []))) (stopped 10)) (cond room (got_desk (desk_of (gots T l g)) c) (empty_desk (Stopped TooManyLines))) log
       (cond room (set got (length g) c) got)
   holds_got g got_front true e places =
       let more = ltb-true (length g) most_lines e in
-      let one_more : length (g ++ (c ∷ [])) ≡ suc (length g) = rw length-append (omega arith) in
       let within : length g < length got = omega arith in
       record {
-        desk = rw (insert_more T g c range, one_more, add-one);
+        desk = rw (insert_more T g c range, length_push g c);
         entries = front;
         arrived = one_stored c g got got_front within;
         few = few;
-        few_gots = omega arith;
+        few_gots = omega (arith, length_push g c);
         ranged = range;
       }
-  holds_got g got_front false e places = holds_stopped 10 log got
+  holds_got g got_front false e places = holds_stopped 10 log got refl
 
 -- A whole line does to the reader what it does to the rules.
 takes : (s : Seen) (l : Line) (log got : List ℕ) → Holds s (desk_of s) log got → most_lines ≤ length log → most_lines ≤ length got
     → Holds (next kind32 s (said l)) (take_line (desk_of s) l) (taken_log (desk_of s) l log) (taken_got (desk_of s) l got)
-unfolding next take_line taken_log taken_got new_of calls.make
-takes unbegun Fresh log got h room places = holds_stopped 9 log got
-takes unbegun (Word k at) log got h room places = holds_stopped 9 log got
+unfolding next take_line taken_log taken_got any.new_of calls.make
+takes unbegun Fresh log got h room places = holds_stopped 9 log got refl
+takes unbegun (Word k at) log got h room places = holds_stopped 9 log got refl
 takes unbegun (Value Threshold v) log got h room places = holds_started v log got (in_range kind32 v) refl
-takes unbegun (Value Log v) log got h room places = holds_stopped 9 log got
-takes unbegun (Value Got v) log got h room places = holds_stopped 9 log got
-takes unbegun Bad log got h room places = holds_stopped 9 log got
-takes (logs T l) Fresh log got h room places = holds_stopped 9 log got
-takes (logs T l) (Word k at) log got h room places = holds_stopped 9 log got
-takes (logs T l) (Value Threshold v) log got h room places = holds_stopped 9 log got
+takes unbegun (Value Log v) log got h room places = holds_stopped 9 log got refl
+takes unbegun (Value Got v) log got h room places = holds_stopped 9 log got refl
+takes unbegun Bad log got h room places = holds_stopped 9 log got refl
+takes (logs T l) Fresh log got h room places = holds_stopped 9 log got refl
+takes (logs T l) (Word k at) log got h room places = holds_stopped 9 log got refl
+takes (logs T l) (Value Threshold v) log got h room places = holds_stopped 9 log got refl
 takes (logs T l) (Value Log v) log got h room places =
     holds_logged T v l log got h.entries h.few h.ranged (ltb (length l) most_lines) refl room
 takes (logs T l) (Value Got v) log got h room places = holds_got T v l log got h.entries h.few h.ranged [] refl true refl places
-takes (logs T l) Bad log got h room places = holds_stopped 9 log got
-takes (gots T l g) Fresh log got h room places = holds_stopped 9 log got
-takes (gots T l g) (Word k at) log got h room places = holds_stopped 9 log got
-takes (gots T l g) (Value Threshold v) log got h room places = holds_stopped 9 log got
-takes (gots T l g) (Value Log v) log got h room places = holds_stopped 9 log got
+takes (logs T l) Bad log got h room places = holds_stopped 9 log got refl
+takes (gots T l g) Fresh log got h room places = holds_stopped 9 log got refl
+takes (gots T l g) (Word k at) log got h room places = holds_stopped 9 log got refl
+takes (gots T l g) (Value Threshold v) log got h room places = holds_stopped 9 log got refl
+takes (gots T l g) (Value Log v) log got h room places = holds_stopped 9 log got refl
 takes (gots T l g) (Value Got v) log got h room places =
     holds_got T v l log got h.entries h.few h.ranged g h.arrived (ltb (length g) most_lines) refl places
-takes (gots T l g) Bad log got h room places = holds_stopped 9 log got
-takes (stopped n) Fresh log got h room places = holds_stopped n log got
-takes (stopped n) (Word k at) log got h room places = holds_stopped n log got
-takes (stopped n) (Value Threshold v) log got h room places = holds_stopped n log got
-takes (stopped n) (Value Log v) log got h room places = holds_stopped n log got
-takes (stopped n) (Value Got v) log got h room places = holds_stopped n log got
-takes (stopped n) Bad log got h room places = holds_stopped n log got
+takes (gots T l g) Bad log got h room places = holds_stopped 9 log got refl
+takes (stopped n) Fresh log got h room places = holds_stopped n log got h.ranged
+takes (stopped n) (Word k at) log got h room places = holds_stopped n log got h.ranged
+takes (stopped n) (Value Threshold v) log got h room places = holds_stopped n log got h.ranged
+takes (stopped n) (Value Log v) log got h room places = holds_stopped n log got h.ranged
+takes (stopped n) (Value Got v) log got h room places = holds_stopped n log got h.ranged
+takes (stopped n) Bad log got h room places = holds_stopped n log got h.ranged
 
 -- ---- a byte, and any bytes
 
@@ -229,14 +235,7 @@ tied_byte : (s : State) (w : Standing) (b : ℕ) (ends : Bool) → Tied s w
     (cond ends (line_taken w) (byte_taken w b))
 tied_byte s w b true h =
     let says : said w.reading.line ≡ parsed kind32 s.begun = ap said h.line ∙ led_says s.begun in
-    let same : Holds s.seen (desk_of s.seen) w.log w.got = record {
-      desk = refl;
-      entries = h.lines.entries;
-      arrived = h.lines.arrived;
-      few = h.lines.few;
-      few_gots = h.lines.few_gots;
-      ranged = h.lines.ranged;
-    } in
+    let same = rw h.lines.desk at h.lines in
     record {
       lines = rw (h.lines.desk, ← says) (takes s.seen w.reading.line w.log w.got same h.room h.got_room);
       line = refl;
@@ -279,6 +278,6 @@ enough_places_lem log got room places = rw (le-leb most_lines (length log) room,
 module _ (bs : List ℕ) (r : Reading) (log got : List ℕ) (tied : Tied (state_after kind32 bs) (standing r log got)) where
   -- Feeding a piece goes on with the bytes before it.
   pub tied_feed : (piece : List ℕ)
-      → Tied (state_after kind32 (bs ++ piece)) (standing (feed_answer r log got piece).reading (feed_log r log got piece) (feed_got r log got piece))
+      → Tied (state_after kind32 (bs ++ piece)) (standing (result_unwrap_or (feed_answer r log got piece) r) (feed_log r log got piece) (feed_got r log got piece))
   unfolding feed_answer feed_log feed_got
   tied_feed piece = rw (enough_places_lem log got tied.room tied.got_room) (tied_piece bs piece (standing r log got) tied)

@@ -15,10 +15,10 @@ use Rattle.desk_rules.specs.Lines as rules
 use Rattle.desk_rules.specs.Lines.{threshold_word, log_word, greatest_number, is_digit, well_begun, number, threshold, log, got, bad, valued, keyed, or_else, parsed}
 use Rattle.desk_rules.proofs.Desk.{further, alone, number_by_digits}
 use Rattle.rules.proofs.Each.{and_first}
-use Rattle.desk_reader.specs.declared.Key.{Key}
-use Rattle.desk_reader.specs.declared.Key.TheVariants.{Threshold, Log, Got}
-use Rattle.desk_reader.specs.declared.Line.{Line}
-use Rattle.desk_reader.specs.declared.Line.TheVariants.{Fresh, Word, Value, Bad}
+use Rattle.desk_reader.specs.declared.bytes.Key.{Key}
+use Rattle.desk_reader.specs.declared.bytes.Key.TheVariants.{Threshold, Log, Got}
+use Rattle.desk_reader.specs.declared.bytes.Line.{Line}
+use Rattle.desk_reader.specs.declared.bytes.Line.TheVariants.{Fresh, Word, Value, Bad}
 use Rattle.desk_reader.specs.Reader.{word_of, first_byte, word_byte, first_digit, next_digit, line_byte}
 
 -- What a line of this word and a number says.

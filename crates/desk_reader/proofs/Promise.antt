@@ -7,10 +7,12 @@ use mathlib.Core.List.{List}
 use contract.Lifetimes.{Lfts}
 use denote.Ref.{Bor}
 use denote.MutBor.{MutBor}
+use Rattle.std.specs.Prelude.{Result, IsOk}
+use Rattle.std.specs.Result.{is_ok}
 use Rattle.rules.specs.Kind.{kind32}
 use Rattle.desk_rules.proofs.Desk.{state_after}
 use Rattle.desk_reader.specs.declared.Reading.{Reading}
-use Rattle.desk_reader.specs.declared.Fed.{Fed}
+use Rattle.lent.specs.declared.refusal.Refusal.{Refusal}
 use Rattle.desk_reader.specs.Reader.{standing, feed_answer}
 use Rattle.desk_reader.specs.Read.{Calls, Read, begun, further}
 use Rattle.desk_reader.proofs.Meaning.{Tied, tied_start, enough_places_lem, tied_feed}
@@ -20,7 +22,7 @@ use Rattle.desk_reader.proofs.feed.Reads as feed
 -- ---- the calls
 
 -- A piece is fed to a reading that is lent a log and got codes.
-pub record PieceFed (r : Reading) (log got piece : List ℕ) (z : Fed) (log₁ got₁ : List ℕ) : Type 0 where
+pub record PieceFed (r : Reading) (log got piece : List ℕ) (z : Result Reading Refusal) (log₁ got₁ : List ℕ) : Type 0 where
   pub κs : Lfts 3
   pub log_lent : MutBor (List ℕ)
   pub log_lent₁ : MutBor (List ℕ)
@@ -49,10 +51,10 @@ tied (further {bs} {r} log got piece log' got' read p) =
     rw (q.0, sym p.left ∙ q.1.0, sym p.left_gots ∙ q.1.1) (tied_feed bs r log got (tied read) piece)
 
 -- No piece is refused.
-pub never_refused : {bs : List ℕ} {r : Reading} {z : Fed} (κs : Lfts 3) (log got : MutBor (List ℕ)) (piece : Bor (List ℕ)) (log₁ got₁ : MutBor (List ℕ)) (piece₁ : Bor (List ℕ))
+pub never_refused : {bs : List ℕ} {r : Reading} {z : Result Reading Refusal} (κs : Lfts 3) (log got : MutBor (List ℕ)) (piece : Bor (List ℕ)) (log₁ got₁ : MutBor (List ℕ)) (piece₁ : Bor (List ℕ))
     → Read the_calls bs r log.now got.now
-    → feed.Post κs (r, (log, (got, (piece, tt)))) z (r, (log₁, (got₁, (piece₁, tt)))) → z.refusal ≡ 0
+    → feed.Post κs (r, (log, (got, (piece, tt)))) z (r, (log₁, (got₁, (piece₁, tt)))) → IsOk z
 unfolding feed_answer
 never_refused κs log got piece log₁ got₁ piece₁ read p =
     let stands = tied read in
-    ap (λ (x : Fed). x.refusal) p.0 ∙ rw (enough_places_lem log.now got.now stands.room stands.got_room)
+    ap is_ok p.0 ∙ rw (enough_places_lem log.now got.now stands.room stands.got_room)

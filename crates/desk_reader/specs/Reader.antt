@@ -1,22 +1,26 @@
 -- What the reader's functions answer, over its own structs. Definitions only.
 -- Assumes nothing.
-use Rattle.std.specs.Prelude.{ℕ, ◌+◌, ◌-◌, ◌*◌, Bool, cond, ◌&&◌, eqb, leb, ltb, length, get_or, set}
+use Rattle.std.specs.Prelude.{ℕ, ◌+◌, ◌-◌, ◌*◌, Bool, cond, ◌&&◌, eqb, leb, ltb, length, get_or, set, Result, Ok, Err}
 use mathlib.Core.List.{List, foldl}
-use Rattle.modint32.specs.declared.Code.{Code}
-use Rattle.power_sum32.specs.declared.power_sum.Answer.{Answer}
-use Rattle.power_sum32.specs.Answers.{empty, new_of, insert_of}
+use Rattle.modint.specs.declared.Code.{Code}
+use Rattle.desk_reader.specs.Sketches.{Quack}
+use Rattle.desk_reader.specs.Sketches.{empty, new_of, insert_of}
+use Rattle.std.specs.Result.{result_unwrap_or}
 use Rattle.rules.specs.Kind.{kind32}
+use Rattle.rules.specs.Calls as calls
+use Rattle.lent.specs.declared.refusal.Refusal.{Refusal}
+use Rattle.lent.specs.declared.refusal.Refusal.TheVariants.{NoRoom, BadLine, TooManyLines}
+use Rattle.lent.specs.Refusals.{answered}
 use Rattle.desk_rules.specs.Lines.{LF, threshold_word, log_word, got_word, greatest_number, is_digit}
 use Rattle.desk_rules.specs.Desk.{most_lines}
-use Rattle.desk_reader.specs.declared.Key.{Key}
-use Rattle.desk_reader.specs.declared.Key.TheVariants.{Threshold, Log, Got}
-use Rattle.desk_reader.specs.declared.Line.{Line}
-use Rattle.desk_reader.specs.declared.Line.TheVariants.{Fresh, Word, Value, Bad}
-use Rattle.desk_reader.specs.declared.Phase.{Phase}
-use Rattle.desk_reader.specs.declared.Phase.TheVariants.{Unbegun, Logs, Gots, Stopped}
-use Rattle.desk_reader.specs.declared.Desk.{Desk}
+use Rattle.desk_reader.specs.declared.bytes.Key.{Key}
+use Rattle.desk_reader.specs.declared.bytes.Key.TheVariants.{Threshold, Log, Got}
+use Rattle.desk_reader.specs.declared.bytes.Line.{Line}
+use Rattle.desk_reader.specs.declared.bytes.Line.TheVariants.{Fresh, Word, Value, Bad}
+use Rattle.desk_reader.specs.declared.lines.Phase.{Phase}
+use Rattle.desk_reader.specs.declared.lines.Phase.TheVariants.{Unbegun, Logs, Gots, Stopped}
+use Rattle.desk_reader.specs.declared.lines.Desk.{Desk}
 use Rattle.desk_reader.specs.declared.Reading.{Reading}
-use Rattle.desk_reader.specs.declared.Fed.{Fed}
 
 -- ---- a line, byte by byte
 
@@ -62,30 +66,30 @@ by_phase (Stopped n) a b c d = d
 abbrev pub empty_desk : Phase → Desk
 empty_desk p = record { phase = p; entries = 0; gots = 0; sent = empty; arrived = empty }
 
--- A line that is not allowed where it stands: 9, unless an earlier line has decided.
+-- A line that is not allowed where it stands is bad, unless an earlier line has decided.
 abbrev pub bad_line : Desk → Desk
-bad_line d = by_phase d.phase (empty_desk (Stopped 9)) (empty_desk (Stopped 9)) (empty_desk (Stopped 9)) d
+bad_line d = by_phase d.phase (empty_desk (Stopped BadLine)) (empty_desk (Stopped BadLine)) (empty_desk (Stopped BadLine)) d
 
 -- The desk after a threshold line, by what making a sketch answers.
-abbrev pub started_desk : Answer → Desk
-started_desk a =
-    cond (eqb a.refusal 0) (record { phase = Logs; entries = 0; gots = 0; sent = a.sketch; arrived = a.sketch }) (empty_desk (Stopped a.refusal))
+abbrev pub started_desk : Result Quack Refusal → Desk
+started_desk (Ok fresh) = record { phase = Logs; entries = 0; gots = 0; sent = fresh; arrived = fresh }
+started_desk (Err refusal) = empty_desk (Stopped refusal)
 
 -- A threshold line: allowed as the first.
 abbrev pub threshold_line : Desk → ℕ → Desk
 threshold_line d T = by_phase d.phase (started_desk (new_of T)) (bad_line d) (bad_line d) (bad_line d)
 
 -- A code of this number.
-abbrev pub coded : ℕ → Code
+abbrev pub coded : ℕ → Code ℕ
 coded c = record { 0 = c }
 
 -- The desk with one log code more.
 abbrev pub log_desk : Desk → ℕ → Desk
-log_desk d c = record { phase = Logs; entries = d.entries + 1; gots = d.gots; sent = (insert_of d.sent (coded c)).sketch; arrived = d.arrived }
+log_desk d c = record { phase = Logs; entries = d.entries + 1; gots = d.gots; sent = result_unwrap_or (insert_of d.sent (coded c)) d.sent; arrived = d.arrived }
 
--- A log line: allowed before the got lines, and 10 beyond as many as there may be.
+-- A log line: allowed before the got lines, and refused where there are as many as there may be already.
 abbrev pub log_line : Desk → ℕ → Desk
-log_line d c = by_phase d.phase (bad_line d) (cond (ltb d.entries most_lines) (log_desk d c) (empty_desk (Stopped 10))) (bad_line d) (bad_line d)
+log_line d c = by_phase d.phase (bad_line d) (cond (ltb d.entries most_lines) (log_desk d c) (empty_desk (Stopped TooManyLines))) (bad_line d) (bad_line d)
 
 -- A log line's code is stored behind the entries so far.
 abbrev pub stored_log : Desk → ℕ → List ℕ → List ℕ
@@ -93,11 +97,11 @@ stored_log d c log = by_phase d.phase log (cond (ltb d.entries most_lines) (set 
 
 -- The desk with one got code more.
 abbrev pub got_desk : Desk → ℕ → Desk
-got_desk d c = record { phase = Gots; entries = d.entries; gots = d.gots + 1; sent = d.sent; arrived = (insert_of d.arrived (coded c)).sketch }
+got_desk d c = record { phase = Gots; entries = d.entries; gots = d.gots + 1; sent = d.sent; arrived = result_unwrap_or (insert_of d.arrived (coded c)) d.arrived }
 
--- A got code where got lines are allowed: 10 beyond as many as there may be.
+-- A got code where got lines are allowed: refused where there are as many as there may be already.
 abbrev pub kept_desk : Desk → ℕ → Desk
-kept_desk d c = cond (ltb d.gots most_lines) (got_desk d c) (empty_desk (Stopped 10))
+kept_desk d c = cond (ltb d.gots most_lines) (got_desk d c) (empty_desk (Stopped TooManyLines))
 
 -- It is stored behind the got codes so far.
 abbrev pub kept_got : Desk → ℕ → List ℕ → List ℕ
@@ -182,10 +186,9 @@ start_of = reading (empty_desk Unbegun) Fresh
 abbrev pub enough_places : List ℕ → List ℕ → Bool
 enough_places log got = leb most_lines (length log) && leb most_lines (length got)
 
--- 5 where the log or the got codes have fewer places than there may be lines of each; the reading is handed back, and both stay.
-unfoldable pub feed_answer : Reading → List ℕ → List ℕ → List ℕ → Fed
-feed_answer r log got piece =
-    cond (enough_places log got) (record { refusal = 0; reading = (fed_of (standing r log got) piece).reading }) (record { refusal = 5; reading = r })
+-- Refused for want of room where the log or the got codes have fewer places than there may be lines of each; both stay then, and the reading is the caller's.
+unfoldable pub feed_answer : Reading → List ℕ → List ℕ → List ℕ → Result Reading Refusal
+feed_answer r log got piece = cond (enough_places log got) (Ok (fed_of (standing r log got) piece).reading) (Err NoRoom)
 
 -- The lent log after a piece: as it was where the call is refused.
 unfoldable pub feed_log : Reading → List ℕ → List ℕ → List ℕ → List ℕ

@@ -1,6 +1,6 @@
 -- The end of the input comes to the rules' answer, whatever the pieces.
 -- Assumes nothing.
-use Prim.Native.Nat.{ℕ, ◌+◌, ◌-◌, ◌*◌, ◌≤◌, ◌<◌}
+use Prim.Native.Nat.{ℕ, ◌+◌, ◌-◌, ◌*◌, ◌≤◌}
 use mathlib.Core.Path.{◌≡◌, refl, ap, sym, ◌∙◌}
 use mathlib.Core.Bool.{Bool, true, false, cond, ◌&&◌}
 use mathlib.Core.List.{List, [], ◌∷◌, foldl}
@@ -8,35 +8,36 @@ use native.Mathlib.Omega.{arith}
 use lib.Dec.{eqb, leb, ltb}
 use lib.IntN.{ℤ, pos, negsuc}
 use lib.ListN.{length, get_or, take}
-use borrow.Author.Tests.{le-leb, ltb-true, ltb-false, eq-eqb}
-use Rattle.rules.specs.Kind.{kind32, counts, half_counts}
-use Rattle.rules.specs.Signed.{signed_count, below_zero}
-use Rattle.rules.specs.Calls.{fitting}
+use borrow.Author.Tests.{le-leb, eq-eqb}
+use Rattle.std.specs.Prelude.{Result}
+use Rattle.std.specs.Result.{is_ok, result_unwrap_or}
+use Rattle.rules.specs.Kind.{kind32}
+use Rattle.rules.specs.Signed.{signed_count}
+use Rattle.rules.specs.Calls.{given, fitting}
 use Rattle.rules.specs.Sketch.{Sketch, WellFormed, subtract}
 use Rattle.rules.specs.Calls as calls
 use Rattle.desk_rules.specs.Lines.{greatest_number, is_digit}
 use Rattle.desk_rules.specs.Desk.{most_lines, Seen, unbegun, logs, gots, stopped, closed, reported, listed_for, decided, outcome}
 use Rattle.desk_rules.specs.Text.{printed, desk_answer}
-use Rattle.rules.proofs.Negation.{signed_itself, signed_negative}
 use Rattle.rules.proofs.WellFormed.{subtract_well_formed}
 use Rattle.desk_rules.proofs.Desk.{state_after, read_after}
-use Rattle.power_sum32.specs.Answers.{built, answered, sub_assign_of, decode_of, decode_surplus_of}
-use Rattle.power_sum32.proofs.Struct.{view_built, built_well_formed}
-use Rattle.desk_reader.specs.declared.Key.TheVariants.{Threshold, Log, Got}
-use Rattle.desk_reader.specs.declared.Line.{Line}
-use Rattle.desk_reader.specs.declared.Line.TheVariants.{Fresh, Word, Value, Bad}
-use Rattle.desk_reader.specs.declared.Phase.{Phase}
-use Rattle.desk_reader.specs.declared.Phase.TheVariants.{Logs, Gots}
-use Rattle.desk_reader.specs.declared.Desk.{Desk}
+use Rattle.desk_reader.specs.Sketches.{built, decode_of, decode_surplus_of}
+use Rattle.modint.specs.Width.{width32}
+use Rattle.power_sum.specs.Answers as any
+use Rattle.power_sum.proofs.Struct.{view_built, built_well_formed}
+use Rattle.desk_reader.specs.declared.bytes.Key.TheVariants.{Threshold, Log, Got}
+use Rattle.desk_reader.specs.declared.bytes.Line.{Line}
+use Rattle.desk_reader.specs.declared.bytes.Line.TheVariants.{Fresh, Word, Value, Bad}
+use Rattle.desk_reader.specs.declared.lines.Phase.{Phase}
+use Rattle.desk_reader.specs.declared.lines.Phase.TheVariants.{Logs, Gots}
+use Rattle.desk_reader.specs.declared.lines.Desk.{Desk}
 use Rattle.desk_reader.specs.declared.Reading.{Reading}
-use Rattle.desk_reader.specs.declared.Fed.{Fed}
+use Rattle.lent.specs.declared.refusal.Refusal.{Refusal}
 use Rattle.desk_reader.specs.Reader.{word_of, first_byte, word_byte, first_digit, next_digit, line_byte, Standing, standing, reading, start_of}
 use Rattle.desk_reader.specs.Reader.{feed_answer, feed_log, feed_got}
 use Rattle.desk_reader.proofs.Parse.{led}
-use Rattle.desk_reader.proofs.Meaning.{codes, InRange, codes_well_formed, codes_threshold, Holds, entries_few, Tied, tied_start, tied_feed}
-use Rattle.desk_text.specs.Writer.{count_from}
-use Rattle.desk_text.specs.Answer.{is_fresh, below_of, listed_of, told_of, decided_of, settled_of, outcome_of, Bounded, finish_of}
-use Rattle.desk_text.proofs.Decision.{finish_with, bounds_tested}
+use Rattle.desk_reader.proofs.Meaning.{codes, InRange, codes_well_formed, codes_threshold, Holds, entries_few, enough_places_lem, Tied, tied_start, tied_feed}
+use Rattle.desk_text.specs.Answer.{is_fresh, difference_of, listed_of, told_of, told_by, outcome_of, in_bounds, finish_of}
 
 -- ---- a line begun is not fresh
 
@@ -67,31 +68,21 @@ bytes_begun l b (x ∷ bs) = bytes_begun (line_byte l b) x bs
 -- ---- the calls on structs of well-formed sketches are the rules on the sketches
 
 -- Subtracting, where the thresholds agree.
-sub_assign_built : (g o : Sketch) → WellFormed kind32 g → WellFormed kind32 o → g.threshold ≡ o.threshold
-    → sub_assign_of (built g) (built o) ≡ answered 0 (built (subtract kind32 g o))
-unfolding sub_assign_of calls.sub_assign
-sub_assign_built g o w v e = rw (built_well_formed g w, built_well_formed o v, view_built g w, view_built o v, eq-eqb g.threshold o.threshold e)
+difference_built : (p : Phase) (n m : ℕ) (g o : Sketch) → WellFormed kind32 g → WellFormed kind32 o → g.threshold ≡ o.threshold
+    → difference_of (record { phase = p; entries = n; gots = m; sent = built g; arrived = built o }) ≡ given (subtract kind32 g o)
+unfolding difference_of calls.sub_assign
+difference_built p n m g o w v e = rw (built_well_formed width32 g w, built_well_formed width32 o v, view_built width32 g w, view_built width32 o v, eq-eqb g.threshold o.threshold e)
 
 -- Decoding.
 decode_built : (g : Sketch) (log : List ℕ) (places : ℕ) → WellFormed kind32 g → decode_of (built g) log places ≡ calls.decode kind32 true g log places
-unfolding decode_of
-decode_built g log places w = rw (built_well_formed g w, view_built g w)
+unfolding any.decode_of
+decode_built g log places w = rw (built_well_formed width32 g w, view_built width32 g w)
 
 -- Decoding the surplus.
 surplus_built : (g : Sketch) (got : List ℕ) (places : ℕ) → WellFormed kind32 g
     → decode_surplus_of (built g) got places ≡ calls.decode_surplus kind32 true g got places
-unfolding decode_surplus_of
-surplus_built g got places w = rw (built_well_formed g w, view_built g w)
-
--- ---- the signed count
-
--- It is so many below zero, or else the count.
-count_from_lem : (n : ℕ) → n < counts → count_from (below_zero (signed_count n)) n ≡ signed_count n
-count_from_lem n u = by_half (ltb n half_counts) refl
-  where
-    by_half : (small : Bool) → ltb n half_counts ≡ small → count_from (below_zero (signed_count n)) n ≡ signed_count n
-    by_half true e = rw (signed_itself n (ltb-true n half_counts e))
-    by_half false e = rw (signed_negative n (ltb-false n half_counts e) u)
+unfolding any.decode_surplus_of
+surplus_built g got places w = rw (built_well_formed width32 g w, view_built width32 g w)
 
 -- ---- the end of the input
 
@@ -106,10 +97,15 @@ module _ (T : ℕ) (l g log got : List ℕ) (range : InRange T) (front : take (l
   lacking_well_formed : WellFormed kind32 lacking
   lacking_well_formed = subtract_well_formed kind32 (codes T l) (codes T g) (codes_well_formed T l range) (codes_well_formed T g range)
 
-  -- It is what subtracting answers.
-  subtracted : sub_assign_of (built (codes T l)) (built (codes T g)) ≡ answered 0 (built lacking)
-  subtracted =
-      sub_assign_built (codes T l) (codes T g) (codes_well_formed T l range) (codes_well_formed T g range) (codes_threshold T l ∙ sym (codes_threshold T g))
+  -- The desk with their sketches.
+  abbrev desk : Phase → Desk
+  desk p = record { phase = p; entries = length l; gots = length g; sent = built (codes T l); arrived = built (codes T g) }
+
+  -- It is what subtracting comes to.
+  subtracted : (p : Phase) → difference_of (desk p) ≡ given lacking
+  subtracted p =
+      difference_built p (length l) (length g) (codes T l) (codes T g) (codes_well_formed T l range) (codes_well_formed T g range)
+      (codes_threshold T l ∙ sym (codes_threshold T g))
 
   -- Its threshold is the input's.
   lacking_threshold : lacking.threshold ≡ T
@@ -117,7 +113,7 @@ module _ (T : ℕ) (l g log got : List ℕ) (range : InRange T) (front : take (l
   lacking_threshold = rw (codes_threshold T l, codes_threshold T g) (omega arith)
 
   -- The lent list has a place for each entry, and for each got code.
-  listed : (z : ℤ) → listed_of (below_zero z) (built lacking) l g most_lines ≡ listed_for kind32 z l g lacking
+  listed : (z : ℤ) → listed_of z (built lacking) l g most_lines ≡ listed_for kind32 z l g lacking
   unfolding calls.decode calls.decode_surplus
   listed (pos n) =
       let all : leb (length l) (length l) ≡ true = le-leb (length l) (length l) (omega arith) in
@@ -130,28 +126,23 @@ module _ (T : ℕ) (l g log got : List ℕ) (range : InRange T) (front : take (l
   tells : told_of (built lacking) l g ≡ decided kind32 T l g lacking
   unfolding decided
   tells =
-      ap (λ (z : ℤ). reported lacking.threshold z (listed_of (below_of (built lacking)) (built lacking) l g most_lines))
-      (count_from_lem lacking.count lacking_well_formed.count_below)
-      ∙ ap (reported lacking.threshold (signed_count lacking.count)) (listed (signed_count lacking.count))
+      ap (reported lacking.threshold (signed_count lacking.count)) (listed (signed_count lacking.count))
       ∙ ap (λ (t : ℕ). reported t (signed_count lacking.count) (listed_for kind32 (signed_count lacking.count) l g lacking)) lacking_threshold
 
   -- The decision is the rules'.
-  decides : (p : Phase)
-      → decided_of (record { phase = p; entries = length l; gots = length g; sent = built (codes T l); arrived = built (codes T g) }) log got
-      ≡ decided kind32 T l g lacking
-  unfolding decided_of
-  decides p = rw (subtracted, front, got_front) tells
+  decides : (p : Phase) → told_by (difference_of (desk p)) (take (length l) log) (take (length g) got) ≡ decided kind32 T l g lacking
+  decides p = rw (subtracted p, front, got_front) tells
 
 -- What the reader comes to is what the rules come to.
 ends : (s : Seen) (begun : List ℕ) (d : Desk) (log got : List ℕ) → Holds s d log got
     → outcome_of (reading d (led begun)) log got ≡ outcome kind32 (closed s begun)
-unfolding outcome_of settled_of outcome closed
+unfolding outcome_of outcome closed
 ends unbegun begun d log got h = rw h.desk
 ends (logs T l) [] d log got h = rw h.desk (decides T l [] log got h.ranged h.entries h.arrived h.few h.few_gots Logs)
 ends (logs T l) (b ∷ bs) d log got h = rw (h.desk, bytes_begun Fresh b bs)
 ends (gots T l g) [] d log got h = rw h.desk (decides T l g log got h.ranged h.entries h.arrived h.few h.few_gots Gots)
 ends (gots T l g) (b ∷ bs) d log got h = rw (h.desk, bytes_begun Fresh b bs)
-ends (stopped n) begun d log got h = rw h.desk
+ends (stopped n) begun d log got h = rw (h.desk, h.ranged)
 
 -- So the text is the rules' answer.
 text : (bs : List ℕ) (w : Standing) → Tied (state_after kind32 bs) w → printed (outcome_of w.reading w.log w.got) ≡ desk_answer kind32 bs
@@ -166,19 +157,30 @@ text bs w h =
 -- A reading that stands where the rules stand after some bytes.
 module _ (bs : List ℕ) (r : Reading) (log got : List ℕ) (tied : Tied (state_after kind32 bs) (standing r log got)) where
   -- It and the lent lists are within the bounds.
-  bounded : Bounded r.desk log got
+  bounded : in_bounds r.desk log got ≡ true
   bounded =
       let few = entries_few (state_after kind32 bs).seen r.desk log got tied.lines in
-      record { log_places = tied.room; got_places = tied.got_room; few_entries = few.0; few_gots = few.1 }
+      rw (
+        le-leb most_lines (length log) tied.room,
+        le-leb most_lines (length got) tied.got_room,
+        le-leb r.desk.entries most_lines few.0,
+        le-leb r.desk.gots most_lines few.1,
+      )
 
   -- Once all bytes are fed, in whatever pieces, the text is the rules' answer to them.
   pub tied_finish : (room : ℕ) → finish_of r log got room ≡ fitting (desk_answer kind32 bs) room
-  tied_finish room =
-      finish_with r log got room (bounds_tested r.desk log got bounded) ∙ ap (λ (t : List ℕ). fitting t room) (text bs (standing r log got) tied)
+  unfolding finish_of
+  tied_finish room = rw bounded (ap (λ (t : List ℕ). fitting t room) (text bs (standing r log got) tied))
 
 -- A whole input as one piece.
-pub whole_input : (log got input log' got' : List ℕ) (r : Reading) (z : Fed) (room : ℕ) → most_lines ≤ length log → most_lines ≤ length got → r ≡ start_of
+pub whole_input : (log got input log' got' : List ℕ) (r : Reading) (z : Result Reading Refusal) (room : ℕ) → most_lines ≤ length log → most_lines ≤ length got → r ≡ start_of
     → z ≡ feed_answer r log got input → log' ≡ feed_log r log got input → got' ≡ feed_got r log got input
-    → finish_of z.reading log' got' room ≡ fitting (desk_answer kind32 input) room
+    → finish_of (result_unwrap_or z r) log' got' room ≡ fitting (desk_answer kind32 input) room
 whole_input log got input log' got' r z room places got_places e f g h =
     rw (f, g, h, e) (tied_finish input _ _ _ (tied_feed [] start_of log got (tied_start log got places got_places) input) room)
+
+-- It is not refused.
+pub whole_accepted : (log got input : List ℕ) (r : Reading) {z : Result Reading Refusal} → most_lines ≤ length log → most_lines ≤ length got
+    → z ≡ feed_answer r log got input → is_ok z ≡ true
+unfolding feed_answer
+whole_accepted log got input r places got_places e = rw (e, enough_places_lem log got places got_places)

@@ -1,154 +1,129 @@
-// The end of the input: the log or the got codes are decoded, and the answer's text is written.
-ghost use Rattle.std.specs.Prelude.{◌≡◌, length};
-ghost use Rattle.lent.specs.Answers.{numbered};
+// The end of the input: the log or the got codes are decoded, and the answer's text is written. Lists stand in arrays of a fixed size and go to lent ones,
+// since there is no heap.
+ghost use Rattle.std.specs.Prelude.{◌≡◌, length, IfOk, MatchOption, take, true, false};
+ghost use Rattle.lent.specs.Refusals.{answered, listed};
 ghost use Rattle.rules.specs.Kind.{kind32};
 ghost use Rattle.rules.specs.Calls.{written, fitting};
-ghost use Rattle.desk_rules.specs.Text.{printed, desk_answer};
-ghost use Rattle.desk_text.specs.Writer.{Within};
-ghost use Rattle.desk_text.specs.Answer.{is_fresh, below_of, listed_of, Bounded, in_bounds, decided_of, settled_of, outcome_of, finish_of};
+ghost use Rattle.desk_reader.specs.Sketches.{built, signed_count_of};
+ghost use Rattle.desk_rules.specs.Text.{desk_answer};
+ghost use Rattle.desk_text.specs.Writer.{told, Within};
+ghost use Rattle.desk_text.specs.Answer.{difference_of, listed_of, told_by, ended_by, claims, in_bounds, finish_of};
 
 use crate::writer;
-use desk_reader::{Desk, Line, Phase, Reading};
-use lent::Number;
-use power_sum32::power_sum::PowerSumQuackU32;
+use crate::writer::Report;
+use desk_reader::{Desk, Line, MOST_LINES, Phase, Reading};
+use lent::refusal::Refusal;
+use power_sum::power_sum::PowerSumQuackU32;
 
-fn is_fresh(l: Line) -> bool
-    ensures { result ≡ is_fresh l }
+// The log lines' sketch less that of the got lines.
+#[tactic(auto, unfolding(crate::specs::Answer::difference_of, power_sum::specs::Answers::sub_assign_of))]
+fn difference(desk: Desk) -> Result<PowerSumQuackU32, Refusal>
+    ensures { result ≡ answered built (difference_of desk) }
 {
-    match l {
-        Line::Fresh => true,
-        Line::Word { key: _, at: _ } => false,
-        Line::Value { key: _, value: _ } => false,
-        Line::Bad => false,
+    desk.sent.sub_assign(desk.arrived)
+}
+
+// The codes of so many lines, at the front of a lent list that has a place for each line that may come.
+fn claimed(list: &[u32], lines: usize) -> Option<&[u32]>
+    ensures { MatchOption result (claims lines list.now ≡ false)
+        (λ codes. (claims lines list.now ≡ true) × (codes.now ≡ take lines list.now)) }
+{
+    if list.len() < MOST_LINES || lines > MOST_LINES {
+        return None;
+    }
+    Some(&list[..lines])
+}
+
+// The codes of the log lines and of the got lines.
+#[derive(Clone, Copy)]
+struct Codes<'a> {
+    log: &'a [u32],
+    got: &'a [u32],
+}
+
+impl<'a> Codes<'a> {
+    // Those that a desk claims of the lists that it was lent.
+    fn of(desk: Desk, log: &'a [u32], got: &'a [u32]) -> Option<Codes<'a>>
+        ensures { MatchOption result (in_bounds desk log.now got.now ≡ false)
+            (λ codes. (in_bounds desk log.now got.now ≡ true)
+            × ((codes.log.now ≡ take desk.entries log.now) × (codes.got.now ≡ take desk.gots got.now))) }
+    {
+        Some(Codes {
+            log: claimed(log, desk.entries)?,
+            got: claimed(got, desk.gots)?,
+        })
+    }
+
+    // What is missing of the log, or where the count is below zero the surplus among the got codes, at the front of a lent list.
+    fn list(self, sketch: PowerSumQuackU32, found: &mut [u32]) -> Result<usize, Refusal>
+        ensures answer { result ≡ listed (listed_of (signed_count_of sketch) sketch
+            self.entry.log.now self.entry.got.now (length found.old)) }
+        ensures list { found.new ≡ written (listed_of (signed_count_of sketch) sketch
+            self.entry.log.now self.entry.got.now (length found.old)) found.old }
+    {
+        if sketch.signed_count() < 0 {
+            sketch.decode_surplus_with_log(self.got, found)
+        } else {
+            sketch.decode_with_log(self.log, found)
+        }
     }
 }
 
-// How many the signed count is below zero.
-fn below(s: PowerSumQuackU32) -> u32
-    ensures { result ≡ below_of s }
+// What the sketches of good lines tell.
+fn decide<'a>(
+    desk: Desk,
+    codes: Codes,
+    found: &'a mut [u32; MOST_LINES],
+) -> Result<Report<'a>, Refusal>
+    ensures { told result ≡ told_by (difference_of desk) codes.entry.log.now codes.entry.got.now }
 {
-    lent::below_zero(s.signed_count())
+    let lacking = difference(desk)?;
+    let many = codes.list(lacking, found)?;
+    Ok(Report {
+        threshold: lacking.threshold,
+        count: lacking.signed_count(),
+        found: &found[..many],
+    })
 }
 
-// What is missing of the log, or where the count is below zero the surplus among the got codes, at the front of a lent list.
-fn list_found(s: PowerSumQuackU32, log: &[u32], got: &[u32], found: &mut [u32]) -> Number
-    ensures answer { result ≡ numbered (listed_of (below_of s) s log.now got.now (length found.old)) }
-    ensures list { found.new
-        ≡ written (listed_of (below_of s) s log.now got.now (length found.old)) found.old }
+// What an input comes to: an earlier refusal stands, and an input without a line or with a line begun is refused.
+fn outcome<'a>(
+    reading: Reading,
+    codes: Codes,
+    found: &'a mut [u32; MOST_LINES],
+) -> Result<Report<'a>, Refusal>
+    ensures { told result ≡ ended_by reading codes.entry.log.now codes.entry.got.now }
 {
-    if below(s) == 0 {
-        return s.decode_with_log(log, found);
+    let Reading { desk, line } = reading;
+    match (desk.phase, line) {
+        (Phase::Stopped(refusal), _) => Err(refusal),
+        (Phase::Logs | Phase::Gots, Line::Fresh) => decide(desk, codes, found),
+        _ => Err(Refusal::BadLine),
     }
-    s.decode_surplus_with_log(got, found)
-}
-
-// The got lines' sketch is subtracted from the log lines', and the log or the got codes are decoded.
-fn decide(d: Desk, log: &[u32], got: &[u32], out: &mut [u8]) -> Number
-    requires { Bounded d log.now got.now }
-    ensures answer { result ≡ numbered (fitting (printed (decided_of d log.now got.now)) (length out.old)) }
-    ensures text { out.new
-        ≡ written (fitting (printed (decided_of d log.now got.now)) (length out.old)) out.old }
-{
-    let sent = d.sent;
-    let arrived = d.arrived;
-    let entries = d.entries;
-    let gots = d.gots;
-    let difference = sent.sub_assign(arrived);
-    if difference.refusal > 0 {
-        return writer::write_refused(out, difference.refusal);
-    }
-    let lacking = difference.sketch;
-    let mut found = [0u32; 8192];
-    let listed = list_found(lacking, &log[..entries], &got[..gots], &mut found);
-    if listed.refusal > 0 {
-        return writer::write_refused(out, listed.refusal);
-    }
-    let many = listed.value;
-    writer::write_found(
-        out,
-        lacking.threshold,
-        below(lacking),
-        lacking.count,
-        &found[..many],
-    )
-}
-
-// After good lines: a line begun is bad.
-#[tactic(auto, unfolding(crate::specs::Answer::settled_of))]
-fn settle(r: Reading, log: &[u32], got: &[u32], out: &mut [u8]) -> Number
-    requires { Bounded r.desk log.now got.now }
-    ensures answer { result ≡ numbered (fitting (printed (settled_of r log.now got.now)) (length out.old)) }
-    ensures text { out.new
-        ≡ written (fitting (printed (settled_of r log.now got.now)) (length out.old)) out.old }
-{
-    let desk = r.desk;
-    let line = r.line;
-    if is_fresh(line) {
-        return decide(desk, log, got, out);
-    }
-    writer::write_refused(out, 9)
-}
-
-// The core of `finish`.
-#[tactic(auto, unfolding(crate::specs::Answer::outcome_of))]
-fn end(r: Reading, log: &[u32], got: &[u32], out: &mut [u8]) -> Number
-    requires { Bounded r.desk log.now got.now }
-    ensures answer { result ≡ numbered (fitting (printed (outcome_of r log.now got.now)) (length out.old)) }
-    ensures text { out.new
-        ≡ written (fitting (printed (outcome_of r log.now got.now)) (length out.old)) out.old }
-{
-    let desk = r.desk;
-    let phase = desk.phase;
-    match phase {
-        Phase::Unbegun => writer::write_refused(out, 9),
-        Phase::Logs => settle(r, log, got, out),
-        Phase::Gots => settle(r, log, got, out),
-        Phase::Stopped(n) => writer::write_refused(out, n),
-    }
-}
-
-// Both lent lists have a place for each line that may come, and the reading claims no more entries and no more got codes than that.
-#[tactic(auto, unfolding(crate::specs::Answer::in_bounds))]
-fn in_bounds(d: Desk, log: &[u32], got: &[u32]) -> bool
-    ensures { result ≡ in_bounds d log.now got.now }
-{
-    if log.len() < desk_reader::MOST_LINES {
-        return false;
-    }
-    if got.len() < desk_reader::MOST_LINES {
-        return false;
-    }
-    if d.entries > desk_reader::MOST_LINES {
-        return false;
-    }
-    if d.gots > desk_reader::MOST_LINES {
-        return false;
-    }
-    true
 }
 
 // The answer, once all bytes are fed: its text goes to the front of the lent buffer. The log and the got codes are those that the bytes were fed with.
-pub fn finish(r: Reading, log: &[u32], got: &[u32], out: &mut [u8]) -> Number
-    ensures answer { result ≡ numbered (finish_of r log.now got.now (length out.old)) }
-    ensures text { out.new ≡ written (finish_of r log.now got.now (length out.old)) out.old }
-    ensures within { Within result.value out.new }
+#[tactic(auto, unfolding(crate::specs::Answer::finish_of, crate::specs::Answer::outcome_of))]
+pub fn finish(reading: Reading, log: &[u32], got: &[u32], out: &mut [u8]) -> Result<usize, Refusal>
+    ensures answer { result ≡ listed (finish_of reading log.now got.now (length out.old)) }
+    ensures text { out.new ≡ written (finish_of reading log.now got.now (length out.old)) out.old }
+    ensures within { IfOk result (λ n. Within n out.new) }
 {
-    let desk = r.desk;
-    if !in_bounds(desk, log, got) {
-        return Number::refused(5);
-    }
-    end(r, log, got, out)
+    let Some(codes) = Codes::of(reading.desk, log, got) else {
+        return Err(Refusal::NoRoom);
+    };
+    let mut found = [0; MOST_LINES];
+    writer::write(out, outcome(reading, codes, &mut found))
 }
 
 // The answer to a whole input.
-pub fn answer(input: &[u8], out: &mut [u8]) -> Number
-    ensures answer { result ≡ numbered (fitting (desk_answer kind32 input.now) (length out.old)) }
+pub fn answer(input: &[u8], out: &mut [u8]) -> Result<usize, Refusal>
+    ensures answer { result ≡ listed (fitting (desk_answer kind32 input.now) (length out.old)) }
     ensures text { out.new ≡ written (fitting (desk_answer kind32 input.now) (length out.old)) out.old }
-    ensures within { Within result.value out.new }
+    ensures within { IfOk result (λ n. Within n out.new) }
 {
-    let mut log = [0u32; 8192];
-    let mut got = [0u32; 8192];
-    let fed = desk_reader::feed(desk_reader::start(), &mut log, &mut got, input);
-    let reading = fed.reading;
+    let mut log = [0; MOST_LINES];
+    let mut got = [0; MOST_LINES];
+    let reading = desk_reader::feed(desk_reader::start(), &mut log, &mut got, input)?;
     finish(reading, &log, &got, out)
 }

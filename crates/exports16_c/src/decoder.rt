@@ -5,22 +5,23 @@ ghost use Rattle.rules.specs.Calls.{written};
 ghost use Rattle.rules.specs.Words.{coefficients_in, decode_in};
 ghost use Rattle.lent.specs.Answers.{numbered};
 
-use exports16::decoder;
+use exports::decoder;
 use lent::Number;
-use modint16::Word;
 
+#[tactic(auto, using(lent::proofs::Refusals::number_handed, rules::proofs::Outcomes::coefficients_in_numbered))]
 #[unsafe(no_mangle)]
-pub extern "C" fn eddy16_to_coeffs(s: &[Word], coeffs: &mut [Word]) -> Number
+pub extern "C" fn eddy16_to_coeffs(s: &[u16], coeffs: &mut [u16]) -> Number
     ensures answer { result ≡ numbered (coefficients_in kind16 s.now (length coeffs.old)) }
     ensures buffer { coeffs.new ≡ written (coefficients_in kind16 s.now (length coeffs.old)) coeffs.old }
 {
-    decoder::eddy16_to_coeffs(s, coeffs)
+    Number::from(decoder::to_coeffs(s, coeffs))
 }
 
+#[tactic(auto, using(lent::proofs::Refusals::number_handed, rules::proofs::Outcomes::decode_in_numbered))]
 #[unsafe(no_mangle)]
-pub extern "C" fn eddy16_decode_with_log(s: &[Word], log: &[Word], out: &mut [Word]) -> Number
+pub extern "C" fn eddy16_decode_with_log(s: &[u16], log: &[u16], out: &mut [u16]) -> Number
     ensures answer { result ≡ numbered (decode_in kind16 s.now log.now (length out.old)) }
     ensures buffer { out.new ≡ written (decode_in kind16 s.now log.now (length out.old)) out.old }
 {
-    decoder::eddy16_decode_with_log(s, log, out)
+    Number::from(decoder::decode_with_log(s, log, out))
 }

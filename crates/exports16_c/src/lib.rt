@@ -1,9 +1,9 @@
-// The calls of `exports16` under their names for C: each is the call of that crate, with its contract.
+// The calls of `exports` under their names for C, at codes of 16 bits.
 #![tactic(auto)]
 
 pub mod decoder;
 pub mod evaluator;
-pub mod modint;
+pub mod field;
 pub mod one_reduction;
 pub mod packet;
 pub mod power_sum;

@@ -5,22 +5,23 @@ ghost use Rattle.rules.specs.Calls.{written};
 ghost use Rattle.rules.specs.Words.{coefficients_in, decode_in};
 ghost use Rattle.lent.specs.Answers.{numbered};
 
-use exports32::decoder;
+use exports::decoder;
 use lent::Number;
-use modint32::Word;
 
+#[tactic(auto, using(lent::proofs::Refusals::number_handed, rules::proofs::Outcomes::coefficients_in_numbered))]
 #[unsafe(no_mangle)]
-pub extern "C" fn eddy32_to_coeffs(s: &[Word], coeffs: &mut [Word]) -> Number
+pub extern "C" fn eddy32_to_coeffs(s: &[u32], coeffs: &mut [u32]) -> Number
     ensures answer { result ≡ numbered (coefficients_in kind32 s.now (length coeffs.old)) }
     ensures buffer { coeffs.new ≡ written (coefficients_in kind32 s.now (length coeffs.old)) coeffs.old }
 {
-    decoder::eddy32_to_coeffs(s, coeffs)
+    Number::from(decoder::to_coeffs(s, coeffs))
 }
 
+#[tactic(auto, using(lent::proofs::Refusals::number_handed, rules::proofs::Outcomes::decode_in_numbered))]
 #[unsafe(no_mangle)]
-pub extern "C" fn eddy32_decode_with_log(s: &[Word], log: &[Word], out: &mut [Word]) -> Number
+pub extern "C" fn eddy32_decode_with_log(s: &[u32], log: &[u32], out: &mut [u32]) -> Number
     ensures answer { result ≡ numbered (decode_in kind32 s.now log.now (length out.old)) }
     ensures buffer { out.new ≡ written (decode_in kind32 s.now log.now (length out.old)) out.old }
 {
-    decoder::eddy32_decode_with_log(s, log, out)
+    Number::from(decoder::decode_with_log(s, log, out))
 }

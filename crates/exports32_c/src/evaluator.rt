@@ -2,15 +2,40 @@
 ghost use Rattle.std.specs.Prelude.{◌≡◌};
 ghost use Rattle.rules.specs.Kind.{kind32};
 ghost use Rattle.rules.specs.Calls.{evaluate};
-ghost use Rattle.polynomial32.specs.Answers.{valued};
+ghost use Rattle.exports32_c.specs.Answers.{valued, evaluated};
 
-use exports32::evaluator;
-use modint32::Word;
-use polynomial32::evaluator::Evaluated;
+use exports::evaluator;
+use lent::refusal::Refusal;
+use modint::Residue;
+
+// A value as C has it, or the number of a refusal and 0.
+#[repr(C)]
+#[derive(Clone, Copy)]
+pub struct Evaluated {
+    pub refusal: u32,
+    pub value: u32,
+}
+
+impl From<Result<Residue<u32>, Refusal>> for Evaluated {
+    ghost from_gives = { λ answer e. e ≡ evaluated answer };
+
+    fn from(answer: Result<Residue<u32>, Refusal>) -> Evaluated {
+        match answer {
+            Ok(value) => Evaluated {
+                refusal: 0,
+                value: value.value(),
+            },
+            Err(refusal) => Evaluated {
+                refusal: refusal.number(),
+                value: 0,
+            },
+        }
+    }
+}
 
 #[unsafe(no_mangle)]
-pub extern "C" fn eddy32_eval(coeffs: &[Word], x: Word) -> Evaluated
+pub extern "C" fn eddy32_eval(coeffs: &[u32], x: u32) -> Evaluated
     ensures { result ≡ valued (evaluate kind32 coeffs.now x) }
 {
-    evaluator::eddy32_eval(coeffs, x)
+    Evaluated::from(evaluator::eval(coeffs, x))
 }

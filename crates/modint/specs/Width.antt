@@ -4,8 +4,8 @@ use Rattle.std.specs.Prelude.{ℕ, ◌≡◌, refl, List, [], ◌∷◌, map}
 use Rattle.std.proofs.Common.{ap}
 use Rattle.rules.specs.Kind.{Kind, kind16, kind32}
 
--- Each word is a number and each number a word, as far as proofs go: that numbers fit their words is told where words are. `nums` has the numbers of a list of
--- words, and is the list itself where words are numbers already.
+-- Each word is a number and each number a word, as far as proofs go: that numbers fit their words is told where words are. `nums` has the numbers of
+-- a list of words, and is the list itself where words are numbers already.
 pub record Width (W : Type 0) : Type 0 where
   pub kind : Kind
   pub num : W → ℕ

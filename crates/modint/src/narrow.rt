@@ -62,6 +62,8 @@ impl Word for u16 {
 
     ghost small_residue = { Prim.search rules };
 
+    ghost few = { Prim.search rules };
+
     fn zero() -> u16 {
         0
     }

@@ -62,6 +62,8 @@ impl Word for u32 {
 
     ghost small_residue = { Prim.search rules };
 
+    ghost few = { Prim.search rules };
+
     fn zero() -> u32 {
         0
     }

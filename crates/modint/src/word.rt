@@ -75,4 +75,7 @@ pub trait Word: Copy + PartialEq {
 
     // Nor has a residue.
     ghost small_residue: { type_size (the_row Self.row) ≤ 8 };
+
+    // Nor has a code.
+    ghost few: { width.kind.code_bytes ≤ 8 };
 }

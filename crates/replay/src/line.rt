@@ -1,55 +1,34 @@
 // A line of the list: a kind, the number of arguments, the arguments, the number of answers, the answers.
-use modint16::Word as Narrow;
-use operations32::operation;
-use operations32::slots::PLACES;
+
+use operations::{operation, slots};
 
 // The kinds of operations on 16-bit codes are those on 32-bit codes and this number.
 const NARROW: u32 = 100;
 
-fn size(number: u32) -> usize {
-    number as usize
+// The slots of both widths.
+#[derive(Clone, Copy, Default)]
+pub(crate) struct Slots {
+    wide: slots::Slots<u32>,
+    narrow: slots::Slots<u16>,
 }
 
-fn run_operation(
-    kind: u32,
-    args: &[u32],
-    expected: &[u32],
-    slots: &mut [u32; PLACES],
-    narrow: &mut [Narrow; PLACES],
-) -> bool {
-    if kind < NARROW {
-        return operation::run(kind, args, expected, slots);
+impl Slots {
+    // Whether an operation is answered as expected.
+    fn run(&mut self, kind: u32, args: &[u32], expected: &[u32]) -> bool {
+        match kind.checked_sub(NARROW) {
+            None => operation::run(kind, args, expected, &mut self.wide),
+            Some(kind) => operation::run(kind, args, expected, &mut self.narrow),
+        }
     }
-    operations16::operation::run(kind - NARROW, args, expected, narrow)
-}
 
-// Whether the first n numbers are a line whose operation is answered as the line says.
-pub(crate) fn run_line(
-    numbers: &[u32],
-    n: usize,
-    slots: &mut [u32; PLACES],
-    narrow: &mut [Narrow; PLACES],
-) -> bool {
-    if n > numbers.len() {
-        return false;
+    // Whether these numbers are a line whose operation is answered as the line says.
+    pub(crate) fn run_line(&mut self, numbers: &[u32]) -> bool {
+        let [kind, given, rest @ ..] = numbers else {
+            return false;
+        };
+        let Some((args, [answers, expected @ ..])) = rest.split_at_checked(*given as usize) else {
+            return false;
+        };
+        *answers as usize == expected.len() && self.run(*kind, args, expected)
     }
-    if n < 3 {
-        return false;
-    }
-    let given = size(numbers[1]);
-    if given > n - 3 {
-        return false;
-    }
-    let end = given + 2;
-    let start = given + 3;
-    if size(numbers[end]) != n - start {
-        return false;
-    }
-    run_operation(
-        numbers[0],
-        &numbers[2..end],
-        &numbers[start..n],
-        slots,
-        narrow,
-    )
 }

@@ -1,159 +1,77 @@
-// The list read byte by byte: the numbers of a line stand in an array until the line ends, and the line is run then.
-use crate::line;
-use modint16::Word as Narrow;
-use operations32::slots::PLACES;
+// The list read byte by byte: the numbers of a line are kept until the line ends, and the line is run then.
+use crate::line::Slots;
+use arrayvec::ArrayVec;
 
-// How many numbers of the line stand in the array, the number that is being read, whether it has a digit, whether the
-// line can be read so far, and what was counted up to this line.
-#[derive(Clone, Copy)]
+// A line so far: its whole numbers, the number that is being read, and whether the line is none of the list, which is known before it ends.
+#[derive(Default, PartialEq, Drop)]
+struct Line {
+    numbers: ArrayVec<u32, 512>,
+    number: Option<u32>,
+    unreadable: bool,
+}
+
+impl Line {
+    // One digit more, where the number then still fits.
+    fn digit(&mut self, digit: u8) -> Option<()> {
+        let tens = self.number.unwrap_or(0).checked_mul(10)?;
+        self.number = Some(tens.checked_add(u32::from(digit))?);
+        Some(())
+    }
+
+    // The end of a number, where one has begun and the line has room for it.
+    fn end_number(&mut self) -> Option<()> {
+        let number = self.number.take()?;
+        self.numbers.try_push(number).ok()
+    }
+
+    // A byte within the line, where such a byte may stand there.
+    fn byte(&mut self, byte: u8) -> Option<()> {
+        match byte {
+            b' ' => self.end_number(),
+            b'0'..=b'9' => self.digit(byte - b'0'),
+            _ => None,
+        }
+    }
+}
+
+// The slots, the line that is being read, and what was counted up to it.
+#[derive(Default, Drop)]
 pub(crate) struct Reading {
-    pub(crate) count: usize,
-    pub(crate) number: u64,
-    pub(crate) has_digit: bool,
-    pub(crate) readable: bool,
+    slots: Slots,
+    line: Line,
     pub(crate) operations: u64,
     pub(crate) differences: u64,
 }
 
-fn next_line(operations: u64, differences: u64) -> Reading {
-    Reading {
-        count: 0,
-        number: 0,
-        has_digit: false,
-        readable: true,
-        operations,
-        differences,
+impl Reading {
+    // Whether the line so far is whole, and its operation is answered as it says.
+    fn line_agrees(&mut self) -> bool {
+        let ended = self.line.end_number().is_some();
+        ended && !self.line.unreadable && self.slots.run_line(self.line.numbers.as_slice())
     }
-}
 
-pub(crate) fn start() -> Reading {
-    next_line(0, 0)
-}
+    fn end_line(&mut self) {
+        self.operations = self.operations.wrapping_add(1);
+        if !self.line_agrees() {
+            self.differences = self.differences.wrapping_add(1);
+        }
+        self.line = Line::default();
+    }
 
-fn unreadable(mut reading: Reading) -> Reading {
-    reading.readable = false;
-    reading
-}
+    pub(crate) fn feed(&mut self, bytes: &[u8]) {
+        for byte in bytes {
+            if *byte == b'\n' {
+                self.end_line();
+            } else if self.line.byte(*byte).is_none() {
+                self.line.unreadable = true;
+            }
+        }
+    }
 
-// One digit more. A number that is too large for a line stays so.
-fn longer(number: u64, digit: u8) -> u64 {
-    if number > 4294967295 {
-        number
-    } else {
-        number * 10 + digit as u64
+    // The end of the input ends a line that has begun.
+    pub(crate) fn finish(&mut self) {
+        if self.line != Line::default() {
+            self.end_line();
+        }
     }
-}
-
-fn digit(mut reading: Reading, byte: u8) -> Reading {
-    if byte < b'0' {
-        return unreadable(reading);
-    }
-    if byte > b'9' {
-        return unreadable(reading);
-    }
-    reading.number = longer(reading.number, byte - b'0');
-    reading.has_digit = true;
-    reading
-}
-
-fn end_number(numbers: &mut [u32; 512], mut reading: Reading) -> Reading {
-    let at = reading.count;
-    let number = reading.number;
-    if !reading.has_digit {
-        return unreadable(reading);
-    }
-    if number > 4294967295 {
-        return unreadable(reading);
-    }
-    if at >= 512 {
-        return unreadable(reading);
-    }
-    numbers[at] = number as u32;
-    reading.count = at + 1;
-    reading.number = 0;
-    reading.has_digit = false;
-    reading
-}
-
-fn agrees(
-    numbers: &[u32; 512],
-    slots: &mut [u32; PLACES],
-    narrow: &mut [Narrow; PLACES],
-    reading: Reading,
-) -> bool {
-    if !reading.readable {
-        return false;
-    }
-    line::run_line(numbers, reading.count, slots, narrow)
-}
-
-fn end_line(
-    numbers: &mut [u32; 512],
-    slots: &mut [u32; PLACES],
-    narrow: &mut [Narrow; PLACES],
-    reading: Reading,
-) -> Reading {
-    let whole = end_number(numbers, reading);
-    let operations = std::num::wrapping_add_u64(reading.operations, 1);
-    if agrees(numbers, slots, narrow, whole) {
-        next_line(operations, reading.differences)
-    } else {
-        next_line(
-            operations,
-            std::num::wrapping_add_u64(reading.differences, 1),
-        )
-    }
-}
-
-fn step(
-    numbers: &mut [u32; 512],
-    slots: &mut [u32; PLACES],
-    narrow: &mut [Narrow; PLACES],
-    reading: Reading,
-    byte: u8,
-) -> Reading {
-    if byte == b'\n' {
-        return end_line(numbers, slots, narrow, reading);
-    }
-    if byte == b' ' {
-        return end_number(numbers, reading);
-    }
-    digit(reading, byte)
-}
-
-pub(crate) fn feed(
-    numbers: &mut [u32; 512],
-    slots: &mut [u32; PLACES],
-    narrow: &mut [Narrow; PLACES],
-    reading: Reading,
-    bytes: &[u8],
-) -> Reading {
-    let mut at = reading;
-    for k in 0..bytes.len() {
-        at = step(&mut *numbers, &mut *slots, &mut *narrow, at, bytes[k]);
-    }
-    at
-}
-
-fn is_fresh(reading: Reading) -> bool {
-    if reading.count != 0 {
-        return false;
-    }
-    if reading.has_digit {
-        return false;
-    }
-    reading.readable
-}
-
-// The end of the input ends a line that has begun.
-pub(crate) fn finish(
-    numbers: &mut [u32; 512],
-    slots: &mut [u32; PLACES],
-    narrow: &mut [Narrow; PLACES],
-    reading: Reading,
-) -> Reading {
-    if is_fresh(reading) {
-        return reading;
-    }
-    end_line(numbers, slots, narrow, reading)
 }

@@ -67,6 +67,12 @@ module _ (K : Kind) where
   new_short t places e few =
       rw e (fitting_short (words_of K (sketch.fresh t)) (words_length K (sketch.fresh t)) (omega (arith, few, length-replicate {A = ℕ} t 0)))
 
+  -- Otherwise a fresh sketch is given.
+  pub new_given : (t places : ℕ) → in_range K t ≡ true → head_words K + t ≤ places → new_in K t places ≡ given (words_of K (sketch.fresh t))
+  unfolding new_in calls.make sketch.fresh
+  new_given t places e room =
+      rw e (fitting_given (words_of K (sketch.fresh t)) (words_length K (sketch.fresh t)) (omega (arith, room, length-replicate {A = ℕ} t 0)))
+
   -- A fresh sketch: the threshold and zeros.
   pub new_stores : (to : List ℕ) (t : ℕ) {m n has last : ℕ} {front sums : List ℕ} → in_range K t ≡ true → m ≡ t → head_words K + t ≤ length to → n ≡ 0 → has ≡ 0
       → last ≡ 0
@@ -77,7 +83,7 @@ module _ (K : Kind) where
       let after = sketch.fresh t in
       let zeros = length-replicate {A = ℕ} t 0 in
       let fits : head_words K + length after.sums ≤ length to = omega (arith, room, zeros) in
-      let comes : new_in K t (length to) ≡ given (words_of K after) = rw e (fitting_given (words_of K after) (words_length K after) fits) in
+      let comes : new_in K t (length to) ≡ given (words_of K after) = new_given t (length to) e room in
       let long : length (take m (drop (head_words K) front)) ≡ m = length-take-le m (drop (head_words K) front)
       (omega (arith, em, room, length-drop (head_words K) front, as_many K to t n has last ef)) in
       stores K to after comes ef refl en eh el (es ∙ rw (long, em)) (em ∙ sym zeros) fits

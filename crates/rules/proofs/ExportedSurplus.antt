@@ -32,6 +32,11 @@ module _ (K : Kind) (ws : List ℕ) (ok : words_fit K ws ≡ true) where
   into_words_lem : (s : Sketch) → WellFormed K s → (places : ℕ) → head_words K + K.greatest ≤ places → into_words K places (given s) ≡ given (words_of K s)
   into_words_lem s w places room = fitting_given (words_of K s) (words_length K s) (omega (arith, w.as_many, w.at_most, room))
 
+  -- Negation to as many words is not refused.
+  pub negate_given : (places : ℕ) → head_words K + K.greatest ≤ places → negate_in K ws places ≡ given (words_of K (negate K (said_by K ws)))
+  unfolding negate_in calls.negate
+  negate_given places room = rw ok (into_words_lem (negate K (said_by K ws)) (negate_well_formed K (said_by K ws) well) places room)
+
   module _ (lent : List ℕ) (room : head_words K + K.greatest ≤ length lent) where
     -- The words of a fresh sketch of the same threshold, less these, are the negated ones.
     pub negate_subtracts : (places : ℕ) → sub_in K (written (new_in K (said_by K ws).threshold (length lent)) lent) ws places ≡ negate_in K ws places

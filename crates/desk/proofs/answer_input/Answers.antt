@@ -3,7 +3,7 @@
 use Rattle.desk.proofs.Input.{answered}
 use Rattle.desk.proofs.answer_input.Goals as goal
 
-pub returns-clause-answer : goal.returns-clause-answer
-returns-clause-answer g c =
-    let e = c.finish-written.ensures in
-    answered c.read_all-reading.ensures c.args.out.now c.requires e.answer e.text
+pub returns : goal.returns
+returns g c =
+    let e = c.finish.ensures in
+    rw c.unwrap_or-end.ensures (answered c.read_all-reading.ensures c.args.out.now c.requires e.answer e.text)

@@ -6,15 +6,15 @@ use Rattle.desk.proofs.read_all.Goals as goal
 pub loop-init : goal.loop-init
 loop-init g c = came_start c.args.log.now c.args.got.now c.requires.0 c.requires.1 c.start-reading.ensures
 
-pub returns-then-not-source : goal.returns-then-not-source
-returns-then-not-source g c =
-    let e = c.after_read-source.ensures in
-    rw (e.answer, e.log, e.got) (came_read c.loop.invariant c.read-told.result c.read-told.new.buf)
+pub returns-in-Break : goal.returns-in-Break
+returns-in-Break g c =
+    let e = c.after_read.ensures in
+    rw c.in-Break.is at (came_read c.loop.invariant c.read-told.result c.read-told.new.buf e.answer e.log e.got)
 
 pub loop-preserved : goal.loop-preserved
 loop-preserved g c =
-    let e = c.after_read-source.ensures in
-    rw (e.answer, e.log, e.got) (came_read c.loop.invariant c.read-told.result c.read-told.new.buf)
+    let e = c.after_read.ensures in
+    rw c.in-Continue.is at (came_read c.loop.invariant c.read-told.result c.read-told.new.buf e.answer e.log e.got)
 
 pub returns : goal.returns
 returns g c =

@@ -1,0 +1,11 @@
+-- The answer of the call, as C has it.
+use Rattle.rules.specs.Kind.{kind16}
+use Rattle.rules.specs.Calls.{evaluate}
+use Rattle.rules.proofs.Outcomes.{evaluate_numbered}
+use Rattle.exports16_c.proofs.Values.{value_handed}
+use Rattle.exports16_c.proofs.evaluator.eddy16_eval.Goals as goal
+
+pub returns : goal.returns
+returns c =
+    let o = evaluate kind16 c.args.coeffs.now c.args.x in
+    value_handed o (evaluate_numbered kind16 c.args.coeffs.now c.args.x) c.eval.ensures c.from.ensures

@@ -1,2 +1,0 @@
--- The structs of the field beside the rules.
-pub mod Answers

@@ -1,3 +1,0 @@
--- What is proved of the values beside their contracts.
-pub mod Wrong
-pub mod OneReductionGuards

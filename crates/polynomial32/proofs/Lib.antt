@@ -1,2 +1,0 @@
--- What is proved of the values beside their contracts.
-pub mod Wrong

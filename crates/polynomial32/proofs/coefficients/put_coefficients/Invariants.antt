@@ -1,8 +1,0 @@
--- The first coefficient, and then one a turn from those that stand in the buffer.
-use Rattle.std.proofs.Common.{◌≤◌, length}
-use Rattle.rules.specs.Kind.{kind32}
-use Rattle.rules.proofs.Newton.{Solving}
-use Rattle.polynomial32.proofs.coefficients.put_coefficients.Given as goal
-
-abbrev pub invariant-loop-i : goal.invariant-loop-i
-invariant-loop-i l = Solving kind32 l.sums l.n l.initial.coeffs l.coeffs l.i × (l.n ≤ length l.sums)

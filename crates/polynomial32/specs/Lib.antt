@@ -1,2 +1,0 @@
--- The answer of an evaluation.
-pub mod Answers

@@ -1,5 +1,0 @@
-// The polynomial that sums lead to: its coefficients, its value at a code, and the entries of a log that are its roots. Numbers in lent slices, however many.
-#![tactic(auto)]
-
-pub mod coefficients;
-pub mod evaluator;

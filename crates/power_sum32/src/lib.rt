@@ -1,9 +1,0 @@
-// The power-sum sketch of 32-bit codes: all its calls are methods of one struct, each a list of refusals and then a loop of `sums32` or `polynomial32`.
-#![tactic(auto)]
-
-pub mod decoder;
-pub mod in_place;
-pub mod packet;
-pub mod power_sum;
-pub mod subtract;
-pub mod surplus;

@@ -1,9 +1,0 @@
--- One number a turn.
-use Rattle.std.proofs.Common.{ℕ, length}
-use Rattle.rules.specs.Kind.{kind32}
-use Rattle.rules.specs.Packet.{all_numbers}
-use Rattle.rules.proofs.Mapping.{Mapping}
-use Rattle.sums32.proofs.packet.put_sums.Given as goal
-
-abbrev pub invariant-loop-k : goal.invariant-loop-k
-invariant-loop-k l = Mapping (λ (n : ℕ). n) (length l.fn.sums) (all_numbers kind32.code_bytes (length l.fn.sums) l.part) l.fn.sums l.sums l.k

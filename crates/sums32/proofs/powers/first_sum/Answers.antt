@@ -1,8 +1,0 @@
--- The first sum moves by the first power.
-use Rattle.std.proofs.Common.{rules}
-use Rattle.rules.specs.Kind.{kind32}
-use Rattle.rules.proofs.Changing.{reaches_first}
-use Rattle.sums32.proofs.powers.first_sum.Goals as goal
-
-pub returns : goal.returns
-returns c = rw (c.raise.ensures, c.signed-y.ensures) (reaches_first kind32 _ _ _ (search rules))
