@@ -21,7 +21,7 @@ module _ (ws : List ℕ) {r : Result (Unit {0}) Refusal} where
       let found = unrefused o numbered (sym both.0) in
       record { answer = er ∙ sym (ap (λ (o : Outcome (List ℕ)). changed o) found.1); words = el ∙ both.1 }
 
-  -- A call that is refused somewhere below, by a number that is none of none.
+  -- A call that is refused by a call below it, by a number that is not 0.
   pub left_alone : (o : Outcome (List ℕ)) {n : ℕ} → r ≡ Err (refusal_numbered n) → (n ≡ 0 → ⊥) → {left after : List ℕ} → left ≡ after
       → (n ≡ refusal_of o) × (after ≡ written o ws) → record { answer : r ≡ changed o; words : left ≡ written o ws }
   left_alone o er some el both =

@@ -1,11 +1,9 @@
 // Where the words of a sketch stand before its sums: the threshold, the count, 1 or 0 for a last code or none, and the last code.
 ghost use Rattle.std.specs.Prelude.{◌≡◌, ◌≤◌, ℕ, length, refl};
 ghost use Rattle.std.proofs.Math.Seq.{sets};
-ghost use Rattle.rules.specs.Kind.{kind16, kind32};
 ghost use Rattle.rules.specs.Sketch.{has_code, code_or0};
 ghost use Rattle.rules.specs.Words.{head_words, count_in, count_parts};
 ghost use Rattle.rules.proofs.Words.{headed};
-ghost use Rattle.modint.specs.Width.{width16, width32};
 ghost use Rattle.exports.specs.Heads.{last_of};
 
 use modint::word::Word;

@@ -58,6 +58,7 @@ fn find_head<W: Layout>(words: &[W]) -> Option<Head<W>>
     })
 }
 
+// The same, with the refusal of words that do not fit.
 pub(crate) fn head_of<W: Layout>(words: &[W]) -> Result<Head<W>, Refusal>
     ensures { result ≡ answered (head_parts W.width) (fitting W.width.kind (W.width.nums words.now)) }
 {

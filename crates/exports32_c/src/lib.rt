@@ -1,4 +1,5 @@
-// The calls of `exports` under their names for C, at codes of 32 bits.
+// The calls of `exports` under their names for C, at codes of 32 bits. C has no type parameters, so each width has
+// its functions and its structs.
 #![tactic(auto)]
 
 pub mod decoder;

@@ -7,11 +7,13 @@ use lib.IntN.{ℤ}
 use contract.Lifetimes.{Lfts}
 use denote.Ref.{Bor}
 use denote.MutBor.{MutBor}
+use Rattle.std.specs.Prelude.{Result}
+use Rattle.lent.specs.declared.refusal.Refusal.{Refusal}
 use Rattle.rules.specs.Determines.{Determines}
 use Rattle.rules.proofs.Determined.{by_equation}
-use Rattle.lent.proofs.Number.refused.Reads as refused
-use Rattle.lent.proofs.Number.wrote.Reads as wrote
-use Rattle.lent.proofs.smaller.Reads as smaller
+use Rattle.lent.proofs.refusal.Refusal.number.Reads as refusal_number
+use Rattle.lent.proofs.refusal.refusal_or_none.Reads as refusal_or_none
+use Rattle.lent.proofs.refusal.NumberFromResultUsizeRefusal.from.Reads as number_from
 use Rattle.lent.proofs.put_number.Reads as put_number
 use Rattle.lent.proofs.number_of.Reads as number_of
 use Rattle.lent.proofs.count_of.Reads as count_of
@@ -27,17 +29,17 @@ Leaves promise = (s s' : MutBor (List ℕ)) → promise s → promise s' → s.n
 pub left_by_equation : (left : List ℕ) → Leaves (λ (s : MutBor (List ℕ)). s.now ≡ left)
 left_by_equation left s s' p p' = p ∙ sym p'
 
--- The number of a refusal makes one answer.
-pub refused_determined : (n : ℕ) → Determines (λ r. refused.Post tt (n, tt) r (n, tt))
-refused_determined n = by_equation _
+-- A refusal has one number.
+pub refusal_number_determined : (r : Refusal) → Determines (λ n. refusal_number.Post tt (r, tt) n (r, tt))
+refusal_number_determined r = by_equation _
 
--- How many were written makes one answer.
-pub wrote_determined : (n : ℕ) → Determines (λ r. wrote.Post tt (n, tt) r (n, tt))
-wrote_determined n = by_equation _
+-- An answer has one number for C.
+pub refusal_or_none_determined : (a a' : Result (Unit {0}) Refusal) → Determines (λ n. refusal_or_none.Post tt (a, tt) n (a', tt))
+refusal_or_none_determined a a' = by_equation _
 
--- The smaller of two numbers has one answer.
-pub smaller_determined : (a b : ℕ) → Determines (λ r. smaller.Post tt (a, (b, tt)) r (a, (b, tt)))
-smaller_determined a b = by_equation _
+-- A list's answer makes one answer for C.
+pub number_from_determined : (a a' : Result ℕ Refusal) → Determines (λ n. number_from.Post tt (a, tt) n (a', tt))
+number_from_determined a a' = by_equation _
 
 -- Writing a number leaves one list of bytes.
 pub put_number_determined : (κs : Lfts 1) (part : MutBor (List ℕ)) (x : ℕ) → Leaves (λ part₁. put_number.Post κs (part, (x, tt)) tt (part₁, (x, tt)))

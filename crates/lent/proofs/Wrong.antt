@@ -11,10 +11,12 @@ use Rattle.rules.specs.Signed.{signed_count, below_zero}
 use Rattle.rules.specs.Packet.{bytes, number}
 use Rattle.rules.proofs.Determined.{lent, lent_mut, differs, both_differ}
 use Rattle.lent.specs.declared.Number.{Number}
-use Rattle.lent.specs.Answers.{counted}
-use Rattle.lent.proofs.Number.refused.Reads as refused
-use Rattle.lent.proofs.Number.wrote.Reads as wrote
-use Rattle.lent.proofs.smaller.Reads as smaller
+use Rattle.std.specs.Prelude.{Result, Ok, Err}
+use Rattle.lent.specs.declared.refusal.Refusal.{Refusal}
+use Rattle.lent.specs.declared.refusal.Refusal.TheVariants.{NoRoom}
+use Rattle.lent.proofs.refusal.Refusal.number.Reads as refusal_number
+use Rattle.lent.proofs.refusal.refusal_or_none.Reads as refusal_or_none
+use Rattle.lent.proofs.refusal.NumberFromResultUsizeRefusal.from.Reads as number_from
 use Rattle.lent.proofs.put_number.Reads as put_number
 use Rattle.lent.proofs.number_of.Reads as number_of
 use Rattle.lent.proofs.count_of.Reads as count_of
@@ -22,17 +24,18 @@ use Rattle.lent.proofs.signed.Reads as signed
 use Rattle.lent.proofs.size.Reads as size
 use Rattle.lent.proofs.below_zero.Reads as below_zero
 
--- A refusal is said to be none, or to have written something.
-pub refused_wrong : RefusesBoth (λ r. refused.Post tt (5, tt) r (5, tt)) (counted 0) (counted 5)
-refused_wrong = both_differ (λ (r : Number). r.refusal) _ _ refl refl
+-- A short buffer is said to be none, or too many.
+pub refusal_number_wrong : RefusesBoth (λ n. refusal_number.Post tt (NoRoom, tt) n (NoRoom, tt)) 0 4
+refusal_number_wrong = both_differ (λ (n : ℕ). n) _ _ refl refl
 
--- Nothing is said to be written, or one too many.
-pub wrote_wrong : RefusesBoth (λ r. wrote.Post tt (5, tt) r (5, tt)) (counted 0) (counted 6)
-wrote_wrong = both_differ (λ (r : Number). r.value) _ _ refl refl
+-- A refused call is said not to be, or by another number.
+pub refusal_or_none_wrong : (a : Result (Unit {0}) Refusal) → RefusesBoth (λ n. refusal_or_none.Post tt (Err NoRoom, tt) n (a, tt)) 0 12
+refusal_or_none_wrong a = both_differ (λ (n : ℕ). n) _ _ refl refl
 
--- The greater of two, or their sum.
-pub smaller_wrong : RefusesBoth (λ r. smaller.Post tt (2, (3, tt)) r (2, (3, tt))) 3 5
-smaller_wrong = both_differ (λ (n : ℕ). n) _ _ refl refl
+-- Five numbers written are said to be none, or the refusal 5.
+pub number_from_wrong : (a : Result ℕ Refusal)
+    → RefusesBoth (λ n. number_from.Post tt (Ok 5, tt) n (a, tt)) (record { refusal = 0; value = 0 }) (record { refusal = 5; value = 0 })
+number_from_wrong a = both_differ (λ (n : Number). n.value) _ _ refl refl
 
 -- The highest byte comes first, or the part is left as it was.
 pub put_number_wrong : (κs : Lfts 1)

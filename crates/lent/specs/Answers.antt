@@ -7,7 +7,3 @@ use Rattle.lent.specs.declared.Number.{Number}
 -- The answer of a call that writes a list: its refusal, and how many it wrote.
 abbrev pub numbered : Outcome (List ℕ) → Number
 numbered o = record { refusal = refusal_of o; value = length_of o }
-
--- So many were written.
-abbrev pub counted : ℕ → Number
-counted n = record { refusal = 0; value = n }

@@ -2,12 +2,10 @@
 // list. And counts as signed numbers.
 #![tactic(auto)]
 
-ghost use Rattle.std.specs.Prelude.{◌≡◌, ◌<◌, ◌^◌, min, nat_abs, length, take};
+ghost use Rattle.std.specs.Prelude.{◌≡◌, ◌<◌, ◌^◌, nat_abs, length, take};
 ghost use Rattle.rules.specs.Kind.{count_bytes};
 ghost use Rattle.rules.specs.Signed.{signed_count, below_zero};
 ghost use Rattle.rules.specs.Packet.{bytes, number};
-ghost use Rattle.rules.specs.Calls.{refused};
-ghost use Rattle.lent.specs.Answers.{numbered, counted};
 
 pub mod refusal;
 
@@ -20,26 +18,6 @@ pub const COUNT_BYTES: usize = 4;
 pub struct Number {
     pub refusal: u32,
     pub value: usize,
-}
-
-impl Number {
-    pub fn refused(refusal: u32) -> Number
-        ensures { result ≡ numbered (refused refusal) }
-    {
-        Number { refusal, value: 0 }
-    }
-
-    pub fn wrote(value: usize) -> Number
-        ensures { result ≡ counted value }
-    {
-        Number { refusal: 0, value }
-    }
-}
-
-pub fn smaller(a: usize, b: usize) -> usize
-    ensures { result ≡ min a b }
-{
-    a.min(b)
 }
 
 // A number over the whole of a part, in as many bytes as the part has.
@@ -71,7 +49,7 @@ pub fn number_of(part: &[u8]) -> u64
 pub fn count_of(part: &[u8]) -> u32
     ensures { result ≡ number (take count_bytes part.now) }
 {
-    let end = smaller(part.len(), COUNT_BYTES);
+    let end = part.len().min(COUNT_BYTES);
     number_of(&part[0..end]) as u32
 }
 
