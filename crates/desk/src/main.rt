@@ -1,6 +1,6 @@
 // The desk program: reads standard input to its end, and writes one answer.
 // What a read hands over and what a write takes stands in no contract. All else does: what is written is the answer to some bytes.
-// Lists and texts stand in arrays of a fixed size, since there is no heap.
+// Lists and texts stand in arrays of a fixed size, since there is no heap. The two lists go side by side, as `feed` and `finish` take them.
 #![tactic(auto)]
 
 ghost use Rattle.std.specs.Prelude.{◌≡◌, ◌≤◌, length};

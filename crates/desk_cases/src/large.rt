@@ -1,4 +1,4 @@
-// Inputs near the limits.
+// Inputs near the limits. Each function is a case of its own, with its numbers and its answer in sight.
 ghost use Rattle.std.specs.Iterator.{IsFinite};
 
 use crate::tally::Tally;

@@ -1,4 +1,5 @@
-// One input fed in pieces of several sizes, and what is written held to what is expected.
+// One input fed in pieces of several sizes, and what is written held to what is expected. Lists and texts stand in arrays, since there is no heap; an input and
+// what is expected go side by side, since a case has them as two texts.
 ghost use Rattle.std.specs.Prelude.{◌<◌};
 
 use crate::text::ROOM;

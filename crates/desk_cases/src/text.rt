@@ -8,6 +8,7 @@ use std::io::Write;
 // The room for the list, and for every input and every answer here.
 pub(crate) const ROOM: usize = 262144;
 
+// A text, with room for the longest.
 pub(crate) type Text = ArrayVec<u8, ROOM>;
 
 // Adds a line of a word for each number.

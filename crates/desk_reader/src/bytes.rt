@@ -1,4 +1,4 @@
-// A line, byte by byte.
+// A line, byte by byte, and its number digit by digit: a piece that is fed may end anywhere, and there is no heap that would keep the digits.
 ghost use Rattle.std.specs.Prelude.{◌≡◌};
 ghost use Rattle.desk_reader.specs.Reader.{word_of, first_byte, first_digit, next_digit, line_byte};
 

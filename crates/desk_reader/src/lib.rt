@@ -20,7 +20,7 @@ pub struct Reading {
     pub line: Line,
 }
 
-// The core of `feed`, which lends the two lists side by side.
+// The core of `feed`, which lends the two lists side by side. A struct of both would be made here and taken apart in `take_line`.
 fn take_bytes(r: Reading, log: &mut [u32], got: &mut [u32], piece: &[u8]) -> Reading
     requires { (most_lines ≤ length log.old) × (most_lines ≤ length got.old) }
     ensures { standing result log.new got.new ≡ fed_of (standing r log.old got.old) piece.now }

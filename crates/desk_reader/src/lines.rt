@@ -72,6 +72,7 @@ impl Desk {
         }
     }
 
+    // With the code of a log line, as `with_got` is with that of a got line: each changes three fields that the other leaves.
     fn with_log(self, code: u32) -> Desk
         requires { self.entries < most_lines }
         ensures { result ≡ log_desk self code }

@@ -1,4 +1,5 @@
 // The calls of the sketch and of the field over words and bytes that are lent, at any width of code. Every call takes any input.
+// What a call keeps of its own stands in arrays of the greatest size, since there is no heap.
 #![tactic(auto)]
 
 pub mod decoder;

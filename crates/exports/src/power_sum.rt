@@ -1,4 +1,5 @@
-// A sketch in words: made, tested, changed and subtracted.
+// A sketch in words: made, tested, changed and subtracted. What insert and remove share, and both subtractions, are calls; the count, the last code and
+// the refusals are each one's own.
 ghost use Rattle.std.specs.Prelude.{◌≡◌, length};
 ghost use Rattle.rules.specs.Calls.{written};
 ghost use Rattle.rules.specs.Words.{words_fit, new_in, insert_in, remove_in, sub_assign_in, sub_in};

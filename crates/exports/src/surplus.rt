@@ -9,7 +9,8 @@ use crate::{decoder, power_sum, words};
 use lent::refusal::Refusal;
 use modint::PLACES;
 
-// As many words as a sketch of the greatest threshold has at any width, of which at most five stand before the sums.
+// As many words as a sketch of the greatest threshold has at any width, of which at most five stand before the sums. One size for all widths, since an array's
+// size is no constant that is computed of a type parameter.
 const MOST: usize = 5 + PLACES;
 
 pub fn signed_count<W: Layout>(s: &[W]) -> i32

@@ -1,4 +1,4 @@
-// Cases of the bench for the calls in place, at any width of code.
+// Cases of the bench for the calls in place, at any width of code. Each function is a case of its own, with its numbers in sight.
 #![tactic(auto)]
 
 use lent::refusal::Refusal;

@@ -1,4 +1,5 @@
 // Runs the calls in place on cases of the bench at 16 bits, and writes how many there are and how many differ.
+// A program takes no width, so each width has its own.
 #![tactic(auto)]
 
 use in_place_cases::Numbers;

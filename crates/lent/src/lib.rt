@@ -12,7 +12,7 @@ pub mod refusal;
 // The bytes of a count, at every width.
 pub const COUNT_BYTES: usize = 4;
 
-// How many numbers or bytes were written, or the number of a refusal and 0.
+// How many numbers or bytes were written, or the number of a refusal and 0: a `Result` as C takes it.
 #[repr(C)]
 #[derive(Clone, Copy, Debug, PartialEq, Eq)]
 pub struct Number {
@@ -20,7 +20,7 @@ pub struct Number {
     pub value: usize,
 }
 
-// A number over the whole of a part, in as many bytes as the part has.
+// A number over the whole of a part, in as many bytes as the part has. By hand, as `number_of` is: `to_le_bytes` and `from_le_bytes` are of one length alone.
 pub fn put_number(part: &mut [u8], x: u64)
     ensures { part.new ≡ bytes (length part.old) x }
 {

@@ -22,6 +22,7 @@ pub enum Refusal {
 }
 
 impl Refusal {
+    // Its number in the table. A method and no `From`, since `u32::from` would not say which number it is.
     pub fn number(self) -> u32
         ensures { result ≡ number_of self }
     {
@@ -29,7 +30,7 @@ impl Refusal {
     }
 }
 
-// The number of a call's refusal, 0 for none.
+// The number of a call's refusal, 0 for none, as C takes it.
 pub fn refusal_or_none(answer: Result<(), Refusal>) -> u32
     ensures { result ≡ refusal_or_none answer }
 {

@@ -76,6 +76,7 @@ impl<W: Word> Mul for Residue<W> {
 impl<W: Word> Residue<W> {
     pub const MODULUS: W = W::MODULUS;
 
+    // What the prime leaves of a code. Not by `From`, whose name would not say that a code is reduced.
     pub fn reduce(code: Code<W>) -> Residue<W>
         ensures { result ≡ wrap W.width (residue W.width.kind (W.width.num code.0)) }
     {
@@ -88,6 +89,7 @@ impl<W: Word> Residue<W> {
         Residue(W::zero())
     }
 
+    // The word of a residue. A method, since no `From` can be written for a type parameter.
     pub fn value(self) -> W
         ensures { result ≡ self.0 }
     {

@@ -6,6 +6,7 @@ ghost use Rattle.modint.specs.Width.{width16};
 use crate::word::Word;
 use crate::{PLACES, Residue};
 
+// Entry i is the inverse of i + 1.
 const INVERSES: [Residue<u16>; PLACES] = [
     Residue(1),
     Residue(32761),
@@ -96,7 +97,8 @@ impl Word for u16 {
         }
     }
 
-    // No choice in these is a branch. A sum is made in twice the bits.
+    // No choice in these is a branch. A sum is made in twice the bits. In `minus` it is that with the negative, and `times` adds no term: one line of each is
+    // its own.
     fn plus(self, other: u16) -> u16 {
         let x = self.below();
         let y = other.below();

@@ -6,6 +6,7 @@ ghost use Rattle.modint.specs.Width.{width32};
 use crate::word::Word;
 use crate::{PLACES, Residue, folding};
 
+// Entry i is the inverse of i + 1.
 const INVERSES: [Residue<u32>; PLACES] = [
     Residue(1),
     Residue(2147483646),

@@ -8,7 +8,8 @@ ghost use Rattle.modint.specs.Answers.{val};
 
 use crate::{PLACES, Residue};
 
-// The operations take words that are residues and words that are not; what they answer is a residue.
+// The operations take words that are residues and words that are not; what they answer is a residue. Each width has bodies of its own, since a sum or a product
+// needs room that is another type, or other steps, at another width.
 pub trait Word: Copy + PartialEq {
     ghost width: { Width Self };
 
@@ -28,7 +29,7 @@ pub trait Word: Copy + PartialEq {
     fn one() -> Self
         ensures { width.num result ≡ 1 };
 
-    // The word of a number's low bits.
+    // The word of a number's low bits. The further bits are cut off, which no `TryFrom` does.
     fn low(number: u64) -> Self
         ensures { width.num result ≡ number % 256 ^ width.kind.code_bytes };
 

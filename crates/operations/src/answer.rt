@@ -6,6 +6,7 @@ use lent::refusal::{Refusal, refusal_or_none};
 // The most numbers of an answer: a refusal, a number, and all of a buffer.
 const LONGEST: usize = 2 + MOST;
 
+// The numbers of an answer.
 pub(crate) type Answer = ArrayVec<u32, LONGEST>;
 
 pub(crate) fn numbers(numbers: &[u32]) -> Option<Answer> {

@@ -1,4 +1,5 @@
-// The operations on codes and on the value of a polynomial.
+// The operations on codes and on the value of a polynomial. Each has a function that takes its arguments apart and names its call, which is all in which it
+// differs. A function that takes a call asks that it can be called always: no bound says that.
 use crate::answer;
 use crate::answer::Answer;
 use crate::operation::Operand;

@@ -58,6 +58,7 @@ enum Operation {
 #[derive(Clone, Copy, Debug, PartialEq, Eq)]
 struct UnknownKind(u32);
 
+// The recorded list has a number for each kind, and `run` takes a line's numbers as they are read.
 impl TryFrom<u32> for Operation {
     type Error = UnknownKind;
 

@@ -1,4 +1,5 @@
-// The operations on sketches in slots. A slot is given by its number.
+// The operations on sketches in slots. A slot is given by its number. Each has a function that takes its arguments apart and names its call, which is all in
+// which it differs. A function that takes a call asks that it can be called always: no bound says that.
 use crate::answer;
 use crate::answer::Answer;
 use crate::operation::Operand;

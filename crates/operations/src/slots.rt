@@ -15,6 +15,7 @@ pub struct Slot<W: Operand> {
     pub words: [W; LONGEST],
 }
 
+// By hand, here and of all slots: a derive clones the array, which asks for sizes that are not known of a type parameter.
 impl<W: Operand> Clone for Slot<W> {
     fn clone(&self) -> Result<Slot<W>, AllocError> {
         Ok(*self)

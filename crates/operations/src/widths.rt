@@ -1,7 +1,7 @@
 // Numbers of the list taken to words and bytes.
 use modint::word::Word;
 
-// The most words or bytes that a line lends a call.
+// The most words or bytes that a line lends a call, in arrays: there is no heap.
 pub(crate) const MOST: usize = 512;
 
 // A word or a byte: numbers that are not too large are one.

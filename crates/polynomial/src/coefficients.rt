@@ -8,6 +8,7 @@ use modint::precompute;
 use modint::word::Word;
 
 // The sum s1 · ai + s2 · a(i-1) + .. + si · a1 modulo the prime, for the coefficients a1 .. ai. No product waits for the one before it.
+// By the place: with a chain over the reversed coefficients a million calls take a tenth longer at 32 bits.
 fn newton_sum<W: Word>(sums: &[W], coeffs: &[W]) -> W
     requires { length coeffs.now ≤ length sums.now }
     ensures { W.width.num result
@@ -23,6 +24,7 @@ fn newton_sum<W: Word>(sums: &[W], coeffs: &[W]) -> W
 }
 
 // As many coefficients as there are sums and places for them, over the front of a buffer. What it holds is read only where one has been written.
+// By an index: a coefficient is made from those before it and from the sum at its own place, and no chain says that more plainly.
 pub fn put_coefficients<W: Word>(sums: &[W], coeffs: &mut [W])
     ensures { W.width.nums coeffs.new ≡ coefficients W.width.kind (W.width.nums sums.now) (common (W.width.nums sums.now) (W.width.nums coeffs.old))
         ++ drop (common (W.width.nums sums.now) (W.width.nums coeffs.old)) (W.width.nums coeffs.old) }

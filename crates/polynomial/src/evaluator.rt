@@ -44,7 +44,9 @@ pub fn eval<W: Word>(coeffs: &[W], x: Code<W>) -> Result<Residue<W>, Refusal>
     Ok(value(coeffs, Residue::reduce(x)))
 }
 
-// Each entry and the first coefficient. By place, here and in a step: of what is written through a zip no proof learns.
+// Each entry and the first coefficient. By place, here and in a step: of what is written through a zip no proof learns. The two loops are one line each, and
+// one loop for both would take that line as a closure, with its contract. The entries and their values stay two slices: one of both would lend for writing
+// what `put_zeros` only reads.
 fn put_firsts<W: Word>(values: &mut [W], log: &[W], a: W)
     requires { length values.old ≡ length log.now }
     ensures { W.width.nums values.new ≡ map (λ (c : ℕ). plus W.width.kind c (W.width.num a)) (W.width.nums log.now) }
@@ -77,6 +79,7 @@ fn put_values<W: Word>(coeffs: &[W], log: &[W], values: &mut [W])
 }
 
 // The entries of a block whose value is 0, over the front of a buffer. Answers how many there are.
+// By the place of an entry, at which a listing with gaps would write it, as an edit that must fail does.
 fn put_zeros<W: Word>(log: &[W], values: &[W], out: &mut [W]) -> usize
     requires { (length values.now ≡ length log.now) × (length log.now ≤ length out.old) }
     ensures by_index { (f : ℕ → ℕ) → W.width.nums values.now ≡ map f (W.width.nums log.now)

@@ -12,6 +12,7 @@ use std::alloc::AllocError;
 use sums::{places, powers};
 
 // The sums stand in the first `threshold` places; the further places hold 0. `last` is the last code that was inserted, or none.
+// An array and a threshold, since there is no heap; the two may disagree, which `well_formed` tells.
 #[derive(Copy)]
 pub struct PowerSumQuack<W: Word> {
     pub threshold: usize,
@@ -37,18 +38,21 @@ impl<W: Word> Clone for PowerSumQuack<W> {
     }
 }
 
+// Whether a sketch may have this threshold.
 fn in_range<W: Word>(threshold: usize) -> bool
     ensures { result ≡ in_range W.width.kind threshold }
 {
     (1..=PLACES).contains(&threshold)
 }
 
+// Whether a last code, where there is one, is below the prime.
 fn last_fits<W: Word>(last: Option<Residue<W>>) -> bool
     ensures { result ≡ last_fits W.width.kind (last_of W.width last) }
 {
     last.is_none_or(|x| x.value().is_residue())
 }
 
+// A last code, or none where it is the residue x.
 fn last_without<W: Word>(last: Option<Residue<W>>, x: Residue<W>) -> Option<Residue<W>>
     ensures { result ≡ last_to W.width (last_without (last_of W.width last) (val W.width x)) }
 {
@@ -147,7 +151,7 @@ impl<W: Word> PowerSumQuack<W> {
         }
     }
 
-    // The places of a well-formed sketch once each sum has moved by its power of a residue.
+    // The places of a well-formed sketch once each sum has moved by its power of a residue, up or down as `shift_by_powers` has it.
     fn shifted(self, x: Residue<W>, down: bool) -> [W; PLACES]
         requires { well_formed_of W.width self ≡ true }
         ensures { W.width.nums result
@@ -167,6 +171,7 @@ impl<W: Word> PowerSumQuack<W> {
         Ok(accepted(self.threshold, sums, self.count.wrapping_add(1), Some(x)))
     }
 
+    // The way of the sums, the count and the last code are others than in `insert`; what both share are the calls.
     pub fn remove(self, code: Code<W>) -> Result<PowerSumQuack<W>, Refusal>
         ensures { result ≡ remove_of W.width self code }
     {

@@ -1,4 +1,4 @@
-// Both subtractions of sketches.
+// Both subtractions of sketches. They are methods and no operators: both can refuse, and neither changes the sketch that it is called on.
 ghost use Rattle.std.specs.Prelude.{◌≡◌, true, ◌&&◌};
 ghost use Rattle.rules.specs.Sketch.{subtract};
 ghost use Rattle.power_sum.specs.Answers.{view, built, well_formed_of, sub_assign_of, sub_of};

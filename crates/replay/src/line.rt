@@ -13,7 +13,7 @@ pub(crate) struct Slots {
 }
 
 impl Slots {
-    // Whether an operation is answered as expected.
+    // Whether an operation is answered as expected. Its kind is the number that the list has.
     fn run(&mut self, kind: u32, args: &[u32], expected: &[u32]) -> bool {
         match kind.checked_sub(NARROW) {
             None => operation::run(kind, args, expected, &mut self.wide),

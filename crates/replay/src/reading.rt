@@ -1,8 +1,10 @@
-// The list read byte by byte: the numbers of a line are kept until the line ends, and the line is run then.
+// The list read byte by byte, its numbers digit by digit, since a piece that is read may end anywhere: the numbers of a line are kept until the line ends,
+// and the line is run then.
 use crate::line::Slots;
 use arrayvec::ArrayVec;
 
 // A line so far: its whole numbers, the number that is being read, and whether the line is none of the list, which is known before it ends.
+// That is a flag, since an `Option` of the line would move the line at each byte.
 #[derive(Default, PartialEq, Drop)]
 struct Line {
     numbers: ArrayVec<u32, 512>,

@@ -26,7 +26,8 @@ fn sums_in<W: Word>(size: usize) -> usize
     size.saturating_sub(sums_at::<W>()) / W::CODE_BYTES
 }
 
-// Numbers one after the other over the front of a part; the further bytes stay.
+// Numbers one after the other over the front of a part; the further bytes stay. By the place, here and in `put_sums`: what a loop over `chunks_exact_mut`, or
+// over `iter_mut` beside others, wrote is not known.
 fn put_numbers<W: Word>(part: &mut [u8], numbers: &[W])
     requires { length numbers.now * W.width.kind.code_bytes ≤ length part.old }
     ensures { part.new ≡ all_bytes W.width.kind.code_bytes (W.width.nums numbers.now)
@@ -80,7 +81,8 @@ fn number_at<W: Word>(part: &[u8], at: usize) -> W
     W::low(lent::number_of(&part[at..end]))
 }
 
-// Whether each of the first n numbers of a part is below the prime: a loop without a branch.
+// Whether each of the first n numbers of a part is below the prime: a loop without a branch. By the place, since `number_at` reads them as it reads the last
+// code; the part may go on behind them, so n stands beside it.
 fn sums_below<W: Word>(part: &[u8], n: usize) -> bool
     requires { n * W.width.kind.code_bytes ≤ length part.now }
     ensures { result ≡ all_below W.width.kind (all_numbers W.width.kind.code_bytes n part.now) }

@@ -35,7 +35,7 @@ pub fn put_differences<W: Word>(places: &mut [W], sums: &[W], others: &[W])
     }
 }
 
-// Each sum that both have, down by the other's; further ones stay.
+// Each sum that both have, down by the other's; further ones stay. By the place, as above.
 pub fn subtract<W: Word>(sums: &mut [W], others: &[W])
     ensures { W.width.nums sums.new
         ≡ differences W.width.kind (W.width.nums sums.old) (W.width.nums others.now)

@@ -24,12 +24,14 @@ struct Reached<W> {
     power: W,
 }
 
+// A power, or its negative where sums move down.
 fn signed<W: Word>(y: W, down: bool) -> W
     ensures { W.width.num result ≡ signed W.width.kind down (W.width.num y) }
 {
     if down { W::zero().minus(y) } else { y }
 }
 
+// The sum at a place, up by y.
 fn raise<W: Word>(sums: &mut [W], k: usize, y: W)
     requires { k < length sums.old }
     ensures { W.width.nums sums.new ≡ raised_at W.width.kind (W.width.nums sums.old) k (W.width.num y) }
@@ -37,6 +39,7 @@ fn raise<W: Word>(sums: &mut [W], k: usize, y: W)
     sums[k] = sums[k].plus(y);
 }
 
+// Four sums from a place on, each up by its number.
 fn raise_four<W: Word>(sums: &mut [W], k: usize, y: Four<W>)
     requires { k + 4 ≤ length sums.old }
     ensures { W.width.nums sums.new ≡ four_at W.width (W.width.nums sums.old) k y }
@@ -47,6 +50,7 @@ fn raise_four<W: Word>(sums: &mut [W], k: usize, y: Four<W>)
     raise(sums, k + 3, y.v3);
 }
 
+// Four products with the same number.
 fn times_four<W: Word>(y: Four<W>, z: W) -> Four<W>
     ensures { result ≡ times_at W.width y (W.width.num z) }
 {
@@ -109,7 +113,8 @@ fn one_by_one<W: Word>(sums: &mut [W], from: Reached<W>, x: W)
     }
 }
 
-// Sum k, counted from 1, moves by the k-th power of x, with one product less than there are sums.
+// Sum k, counted from 1, moves by the k-th power of x, with one product less than there are sums. `down` is no choice of a step, but the sign of the first
+// powers, and a bool as in the rule `moved_by_powers`.
 pub fn shift_by_powers<W: Word>(sums: &mut [W], x: Residue<W>, down: bool)
     ensures { W.width.nums sums.new ≡ moved_by_powers W.width.kind down (val W.width x) (W.width.nums sums.old) }
 {
