@@ -1,6 +1,8 @@
 // Cases of the bench for the calls in place, at any width of code. Each function is a case of its own, with its numbers in sight.
 #![tactic(auto)]
 
+ghost use Rattle.std.specs.Prelude.{◌≡◌};
+
 use lent::refusal::Refusal;
 use modint::Code;
 use modint::word::Word;
@@ -68,7 +70,9 @@ fn refused<W: Word>() -> Result<bool, Refusal> {
 }
 
 // How many cases there are, and how many of them come out otherwise than they should.
-pub fn run<W: Word>(numbers: Numbers) -> (usize, usize) {
+pub fn run<W: Word>(numbers: Numbers) -> (usize, usize)
+    ensures { result.0 ≡ 5 }
+{
     let cases = [
         two_insertions::<W>(),
         back_and_forth::<W>(numbers.greatest, numbers.greatest),

@@ -12,6 +12,7 @@ use Rattle.rules.specs.Determines.{Holds, Determines, DeterminesBoth}
 use Rattle.rules.proofs.Determined.{by_equation, by_equations}
 use Rattle.power_sum.specs.declared.power_sum.PowerSumQuack.{PowerSumQuack}
 use Rattle.power_sum.proofs.power_sum.PowerSumQuack.new.Reads as new
+use Rattle.power_sum.proofs.power_sum.PowerSumQuack.blank.Reads as blank
 use Rattle.power_sum.proofs.power_sum.PowerSumQuack.threshold.Reads as threshold
 use Rattle.power_sum.proofs.power_sum.PowerSumQuack.count.Reads as count
 use Rattle.power_sum.proofs.power_sum.PowerSumQuack.last_value.Reads as last_value
@@ -41,6 +42,10 @@ module _ {T : RattleType} (w : Word T) (p : Passed T) where
   -- Making a sketch has one answer.
   pub new_determined : (κs : Lfts 1) (threshold : ℕ) → Determines (Holds (passing w p new.Post κs) (threshold, tt))
   new_determined κs threshold = by_equation _
+
+  -- The struct of no sketch is one.
+  pub blank_determined : (κs : Lfts 1) → Determines (Holds (passing w p blank.Post κs) tt)
+  blank_determined κs = by_equation _
 
   -- Reading a packet has one answer.
   pub deserialize_determined : (κs : Lfts 2) (buf buf₁ : Bor (List ℕ)) → Determines (λ r. passing w p deserialize.Post κs (buf, tt) r (buf₁, tt))

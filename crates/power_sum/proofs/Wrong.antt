@@ -29,6 +29,7 @@ use Rattle.power_sum.specs.Answers.{built, new_of, insert_of, remove_of, sub_ass
 use Rattle.power_sum.specs.Answers.{negate_of, decode_surplus_of, write_of, write_with_hint_of, read_of}
 use Rattle.power_sum.proofs.Idle.{AtBoth, code, none, both, gone, refusal, first_sum}
 use Rattle.power_sum.proofs.power_sum.PowerSumQuack.new.Reads as new
+use Rattle.power_sum.proofs.power_sum.PowerSumQuack.blank.Reads as blank
 use Rattle.power_sum.proofs.power_sum.PowerSumQuack.threshold.Reads as threshold
 use Rattle.power_sum.proofs.power_sum.PowerSumQuack.count.Reads as count
 use Rattle.power_sum.proofs.power_sum.PowerSumQuack.last_value.Reads as last_value
@@ -53,6 +54,9 @@ use Rattle.power_sum.proofs.power_sum.PowerSumQuack.deserialize.Reads as deseria
 -- What is read off a sketch: a count, and the number of a last code, 0 for none.
 abbrev counted : PowerSumQuack ℕ → ℕ
 counted s = s.count
+
+abbrev threshold_and_count : PowerSumQuack ℕ → ℕ
+threshold_and_count s = s.threshold + s.count
 
 abbrev last_number : Option (Residue ℕ) → ℕ
 last_number None = 0
@@ -104,6 +108,12 @@ module _ (p : Passed u16) (q : Passed u32) where
         (λ post w. RefusesBoth (Holds (post κs) (w.kind.greatest + 1, tt)) (Ok (built w (fresh (w.kind.greatest + 1)))) (Err ThresholdsDiffer))
     unfolding new_of calls.make fresh
     new_wrong = (both_differ refusal _ _ refl refl, both_differ refusal _ _ refl refl)
+
+    -- No sketch is one of threshold 1, or has a count.
+    pub blank_wrong : AtBoth (passing word16 p blank.Post) (passing word32 q blank.Post)
+        (λ post w. RefusesBoth (Holds (post κs) tt) (built w (fresh 1)) (built w (record no_sketch { count = 1 })))
+    unfolding fresh
+    blank_wrong = (both_differ threshold_and_count _ _ refl refl, both_differ threshold_and_count _ _ refl refl)
 
     -- The places, or the count, for the threshold.
     pub threshold_wrong : AtBoth (passing word16 p threshold.Post) (passing word32 q threshold.Post)
