@@ -62,7 +62,7 @@ module _ (z : ℤ) (f : SFits w32 z) where
 
 -- ---- a count read as a signed number
 
--- -1 less a number.
+-- -1 less a number. The library's lemma that says the same is private to its file.
 down : (n : ℕ) → negsuc 0 -ℤ pos n ≡ negsuc n
 down zero = refl
 down (suc n) = ap (λ (x : ℕ). negsuc (suc x)) (zero-add n)

@@ -1,34 +1,12 @@
 -- Congruence: two numbers are congruent modulo m where `%` leaves the same of both. Laws for any modulus; those for a prime are in Euclid.
 -- A difference is written as a sum: the negative of b is m - b % m.
 -- Assumes nothing.
-use Prim.Native.Nat.{ℕ, zero, suc, ◌+◌, ◌-◌, ◌*◌, ◌%◌, ◌/◌, ◌^◌, ◌<◌, ◌≤◌, ◌∣◌}
+use Prim.Native.Nat.{ℕ, suc, ◌+◌, ◌-◌, ◌*◌, ◌%◌, ◌/◌, ◌<◌, ◌≤◌, ◌∣◌}
 use mathlib.Core.Path.{◌≡◌, sym, ◌∙◌, ap, ap₂, subst}
-use native.Mathlib.Nat.{mod-add-div, add-mul-mod_self_left, mul_comm, pow-succ', pow-zero, add-mod, mod-lt, mod-add-mod, mul-sub, dvd-mul_right}
-use native.Mathlib.Nat.{mul-div_cancel'}
+use native.Mathlib.Nat.{mod-add-div, add-mul-mod_self_left, add-mod, mod-lt, mod-add-mod, mul-sub, dvd-mul_right, mul-div_cancel'}
 use native.Mathlib.Decide.{dec_le}
 use native.Mathlib.Omega.{arith}
-
--- ---- products and powers
-
--- A factor may be reduced before the product is.
-pub mul_mod_left : (a b m : ℕ) → (a % m * b) % m ≡ (a * b) % m
-mul_mod_left a b m = sym (ap (λ (x : ℕ). x % m) split ∙ add-mul-mod_self_left (a % m * b) m (a / m * b))
-  where
-    split : a * b ≡ a % m * b + m * (a / m * b)
-    split = omega (arith, ap (λ (x : ℕ). x * b) (mod-add-div a m))
-
--- So may the second factor.
-pub mul_mod_right : (a b m : ℕ) → (a * (b % m)) % m ≡ (a * b) % m
-mul_mod_right a b m = rw (mul_comm a (b % m), mul_mod_left, mul_comm b a)
-
--- Both factors may be reduced before the product is.
-pub mul_mod : (a b m : ℕ) → (a % m * (b % m)) % m ≡ (a * b) % m
-mul_mod a b m = mul_mod_left a (b % m) m ∙ mul_mod_right a b m
-
--- The base of a power may be reduced before the power is.
-pub pow_mod : (a k m : ℕ) → (a % m) ^ k % m ≡ a ^ k % m
-pow_mod a zero m = simp pow-zero
-pow_mod a (suc k) m = rw (pow-succ' (a % m) k, pow-succ' a k, ← mul_mod_right (a % m) ((a % m) ^ k) m, pow_mod a k m, mul_mod)
+use Rattle.std.proofs.lemmas.Nat.{mul-mod}
 
 -- ---- congruence and divisibility
 
@@ -63,7 +41,7 @@ module _ (m : ℕ) where
 
   -- Products of congruent numbers are congruent.
   pub mul_congruent : (a a' b b' : ℕ) → a % m ≡ a' % m → b % m ≡ b' % m → (a * b) % m ≡ (a' * b') % m
-  mul_congruent a a' b b' x y = sym (mul_mod a b m) ∙ ap₂ (λ (u v : ℕ). (u * v) % m) x y ∙ mul_mod a' b' m
+  mul_congruent a a' b b' x y = mul-mod a b m ∙ ap₂ (λ (u v : ℕ). (u * v) % m) x y ∙ sym (mul-mod a' b' m)
 
   -- What is added on both sides may be left out.
   pub cancel_add : (d a b : ℕ) → (d + a) % m ≡ (d + b) % m → a % m ≡ b % m

@@ -6,8 +6,9 @@ use mathlib.Core.Logic.{◌⊎◌, inl, inr, ⊎_map}
 use native.Mathlib.Nat.{le_of_dvd, mod-add-div, mul-sub, one-mul, mod-lt, dvd_of_mod-eq-zero, mod-eq-zero_of_dvd, dvd-mul_right, dvd-mul_right_of_dvd}
 use native.Mathlib.Nat.{dvd-add_iff_left, eq-zero-or-pos}
 use native.Mathlib.Omega.{arith}
+use Rattle.std.proofs.lemmas.Nat.{mul-mod_first}
 use Rattle.numbers.specs.Prime.{IsPrime}
-use Rattle.numbers.proofs.Congruence.{mul_mod_left, divides_difference, congruent_of_divides, greater_first}
+use Rattle.numbers.proofs.Congruence.{divides_difference, congruent_of_divides, greater_first}
 
 module _ (p : ℕ) (P : IsPrime p) where
   -- A prime is above 0.
@@ -59,7 +60,7 @@ module _ (p : ℕ) (P : IsPrime p) where
       pick (inl e) = inl (dvd_of_mod-eq-zero p e)
       pick (inr l) =
           inr (divides_other p (a % p) b (omega (arith, mod-lt a positive)) l (mod-lt a positive)
-          (dvd_of_mod-eq-zero p (mul_mod_left a b p ∙ mod-eq-zero_of_dvd p h)))
+          (dvd_of_mod-eq-zero p (mul-mod_first a b p ∙ mod-eq-zero_of_dvd p h)))
 
   -- There are no zero divisors: a product that leaves 0 has a factor that leaves 0.
   pub no_zero_divisors : (a b : ℕ) → a * b % p ≡ 0 → (a % p ≡ 0) ⊎ (b % p ≡ 0)

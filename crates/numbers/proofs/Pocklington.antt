@@ -8,9 +8,9 @@ use native.Mathlib.Nat.{mod-mod_of_dvd, mod-eq_of_lt, mod-add-mod}
 use native.Mathlib.Decide.{dec_dvd}
 use native.Mathlib.Omega.{arith}
 use lib.Dec.{T, eqb, eqb→eq}
+use Rattle.std.proofs.lemmas.Nat.{mul-mod_second}
 use Rattle.numbers.specs.Prime.{IsPrime}
 use Rattle.numbers.specs.Power.{power_mod}
-use Rattle.numbers.proofs.Congruence.{mul_mod_right}
 use Rattle.numbers.proofs.Fermat.{fermat_one}
 use Rattle.numbers.proofs.Power.{pow_pow, pow_leaves_one, power_mod_lem}
 
@@ -63,7 +63,7 @@ module _ (n q r a c : ℕ) (Q : IsPrime q) (whole : suc (q * r) ≡ n) (leaves_o
       by_d = ap (λ (z : ℕ). b ^ z % d) y_multiple ∙ pow_leaves_one b x (x ^ (q - 2)) d (fermat_one d D b coprime)
 
       at_b : b ^ suc (y / q * q) % d ≡ b % d
-      at_b = rw (pow-succ' b (y / q * q), ← mul_mod_right b (b ^ (y / q * q)) d, pow_leaves_one b q (y / q) d power_q, mul_mod_right b 1 d, mul-one b)
+      at_b = rw (pow-succ' b (y / q * q), ← mul-mod_second b (b ^ (y / q * q)) d, pow_leaves_one b q (y / q) d power_q, mul-mod_second b 1 d, mul-one b)
 
   -- But b less 1 has an inverse.
   order_not_one : b % d ≡ 1 % d → ⊥

@@ -9,8 +9,8 @@ use lib.Arith.{half_le}
 use lib.Dec.{eqb}
 use lib.Pow.{pow-add}
 use borrow.Author.Tests.{eqb-true, eqb-false}
+use Rattle.std.proofs.lemmas.Nat.{mul-mod, mul-mod_first, pow-mod}
 use Rattle.numbers.specs.Power.{power_within, power_mod}
-use Rattle.numbers.proofs.Congruence.{mul_mod, mul_mod_left, pow_mod}
 
 -- A number to the power 1 is the number.
 pub pow_one : (a : ℕ) → a ^ 1 ≡ a
@@ -28,20 +28,20 @@ pow_pow a j (suc k) = rw (pow-succ' (a ^ j) k, pow_pow a j k, suc-mul k j, pow-a
 
 -- Where a power leaves 1, so does every power of it.
 pub pow_leaves_one : (b j k m : ℕ) → b ^ j % m ≡ 1 % m → b ^ (k * j) % m ≡ 1 % m
-pow_leaves_one b j k m h = rw (← pow_pow b j k, ← pow_mod (b ^ j) k m, h, pow_mod 1 k m, one_pow k)
+pow_leaves_one b j k m h = rw (← pow_pow b j k, ← pow-mod (b ^ j) k m, h, pow-mod 1 k m, one_pow k)
 
 -- ---- one halving
 
 -- The square of the half's power is the power of an even exponent.
 pub power_even : (m b e : ℕ) {h s : ℕ} → h ≡ b ^ (e / 2) % m → s ≡ h * h % m → e % 2 ≡ 0 → s ≡ b ^ e % m
 power_even m b e {h} {s} eh es even =
-    es ∙ ap (λ (x : ℕ). x * x % m) eh ∙ mul_mod (b ^ (e / 2)) (b ^ (e / 2)) m ∙ ap (λ (x : ℕ). x % m) (sym (pow-add b (e / 2) (e / 2)))
+    es ∙ ap (λ (x : ℕ). x * x % m) eh ∙ sym (mul-mod (b ^ (e / 2)) (b ^ (e / 2)) m) ∙ ap (λ (x : ℕ). x % m) (sym (pow-add b (e / 2) (e / 2)))
     ∙ ap (λ (x : ℕ). b ^ x % m) (omega arith)
 
 -- Once more times the base, it is the power of an odd one.
 pub power_odd : (m b e : ℕ) {h s r : ℕ} → h ≡ b ^ (e / 2) % m → s ≡ h * h % m → r ≡ s * b % m → (e % 2 ≡ 0 → ⊥) → r ≡ b ^ e % m
 power_odd m b e {h} {s} {r} eh es er odd =
-    er ∙ ap (λ (x : ℕ). x * b % m) (es ∙ ap (λ (x : ℕ). x * x % m) eh ∙ mul_mod (b ^ (e / 2)) (b ^ (e / 2)) m) ∙ mul_mod_left (b ^ (e / 2) * b ^ (e / 2)) b m
+    er ∙ ap (λ (x : ℕ). x * b % m) (es ∙ ap (λ (x : ℕ). x * x % m) eh ∙ sym (mul-mod (b ^ (e / 2)) (b ^ (e / 2)) m)) ∙ mul-mod_first (b ^ (e / 2) * b ^ (e / 2)) b m
     ∙ ap (λ (x : ℕ). x * b % m) (sym (pow-add b (e / 2) (e / 2))) ∙ ap (λ (x : ℕ). x % m) (sym (pow-suc b (e / 2 + e / 2)))
     ∙ ap (λ (x : ℕ). b ^ x % m) (omega arith)
 

@@ -2,3 +2,4 @@
 pub mod Blocks
 pub mod Wrong
 pub mod OneReductionGuards
+mod Empty

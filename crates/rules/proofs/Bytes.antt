@@ -1,11 +1,11 @@
 -- The code that moves bytes: numbers written over the front of a lent list, one after the other, and numbers read into places, at every width of a number;
 -- and what writing and reading come to, refusal by refusal. What a loop keeps is a record, so that what it speaks of is found at each use.
 -- Assumes nothing.
-use Prim.Native.Nat.{ℕ, suc, ◌+◌, ◌-◌, ◌*◌, ◌≤◌, ◌<◌, zero-le, min}
+use Prim.Native.Nat.{ℕ, ◌+◌, ◌-◌, ◌*◌, ◌≤◌, ◌<◌, zero-le, min}
 use mathlib.Core.Path.{◌≡◌, refl, sym, ◌∙◌, ap}
 use mathlib.Core.Bool.{Bool, true, false}
 use mathlib.Core.List.{List, [], ◌++◌, append_assoc, append-nil}
-use native.Mathlib.Nat.{zero-mul, mul-le-mul_right, mod-eq_of_lt}
+use native.Mathlib.Nat.{zero-mul, le_refl, mod-eq_of_lt}
 use native.Mathlib.Numerals.{add-one}
 use native.Mathlib.Omega.{arith}
 use lib.Dec.{leb, ltb}
@@ -13,6 +13,8 @@ use lib.ListN.{length, get_or, take, drop, length-append, length-drop}
 use lib.Seq.{take_all, take-suc, drop-drop, take_at, drop_at, drop-length}
 use borrow.Author.Tests.{le-leb, lt-leb, leb-true}
 use borrow.Rule.Slice.PartMut.{put_mid}
+use Rattle.std.proofs.lemmas.List.{take_rest}
+use Rattle.std.proofs.lemmas.Nat.{row_fits}
 use Rattle.numbers.specs.Table.{every}
 use Rattle.rules.specs.Kind.{Kind, count_bytes}
 use Rattle.rules.specs.Field.{residue}
@@ -24,13 +26,7 @@ use Rattle.rules.proofs.Each.{every_below, at_below}
 use Rattle.rules.proofs.Packet.{bytes_length, all_bytes_append, read_few}
 use Rattle.rules.proofs.WellFormed.{in_range_parts}
 
--- ---- four bytes
-
 -- ---- writing over the front of a list
-
--- The part from a place to the end is all that stands from there.
-pub all_from : {A : Type 0} (a : ℕ) (l : List A) → take (length l - a) (drop a l) ≡ drop a l
-all_from a l = take_all (length l - a) (drop a l) (omega (arith, length-drop a l))
 
 -- `out` is `out₀` with p, which is a long, written over its front.
 pub record Front (a : ℕ) (p out₀ out : List ℕ) : Type 0 where
@@ -49,7 +45,7 @@ front_more {a} {n} {p} {ys} {out₀} {out} b f l room e =
     let t : take a out ≡ p = ap (λ (z : List ℕ). take a z) f.is ∙ take_at p (drop a out₀) a f.size in
     let d : drop a out ≡ drop a out₀ = ap (λ (z : List ℕ). drop a z) f.is ∙ drop_at p (drop a out₀) a f.size in
     let s : length (drop a out) ≡ length out - a = length-drop a out in
-    let w : take (length out - a) (drop a out) ≡ drop a out = all_from a out in
+    let w : take (length out - a) (drop a out) ≡ drop a out = take_rest out a in
     let z : drop (length out - a) (drop a out) ≡ [] = ap (λ (m : ℕ). drop m (drop a out)) (sym s) ∙ drop-length (drop a out) in
     record {
       size = omega (arith, length-append p b, f.size);
@@ -80,12 +76,6 @@ front_packet K count x sums {out₀} f =
 
 -- ---- numbers written one after the other
 
--- A place before n and its w bytes lie within n * w bytes.
-pub place_within : (w k n : ℕ) → k < n → k * w + w ≤ n * w
-place_within w k n h =
-    let e : suc k * w ≡ k * w + w = omega arith in
-    omega (arith, mul-le-mul_right {m = suc k} {n = n} w h)
-
 one_more : (w : ℕ) (xs : List ℕ) (k : ℕ) → k < length xs → all_bytes w (take (k + 1) xs) ≡ all_bytes w (take k xs) ++ bytes w (get_or xs k 0)
 unfolding all_bytes
 one_more w xs k h = rw (add-one, take-suc xs k 0, all_bytes_append, append-nil)
@@ -106,14 +96,14 @@ module _ {w : ℕ} {xs out₀ : List ℕ} where
   module _ {out : List ℕ} {k : ℕ} (i : Putting w xs out₀ out k) where
     -- The next number has its place.
     pub putting_room : k < length xs → k * w + w ≤ length out
-    putting_room h = omega (arith, place_within w k (length xs) h, i.space, i.long)
+    putting_room h = omega (arith, row_fits k w (length xs) w h (le_refl w), i.space, i.long)
 
     -- Its bytes are written over that part.
     pub putting_turn : {x v m : ℕ} {ys : List ℕ} → k < length xs → x ≡ get_or xs k 0 → v ≡ w → m ≡ w → ys ≡ bytes v x
         → Putting w xs out₀ (put_mid (k * w) m out ys) (k + 1)
     putting_turn {x} h e ev em put =
         let one : k * w + w ≡ (k + 1) * w = omega arith in
-        let next = front_part (bytes w x) i.so_far (bytes_length w x) em (omega (arith, place_within w k (length xs) h, i.space)) (put ∙ rw ev) in
+        let next = front_part (bytes w x) i.so_far (bytes_length w x) em (omega (arith, row_fits k w (length xs) w h (le_refl w), i.space)) (put ∙ rw ev) in
         record {
           within = omega arith;
           space = i.space;

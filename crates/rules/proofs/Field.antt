@@ -8,7 +8,8 @@ use native.Mathlib.Nat.{mod-lt, mod-mod, mod-eq_of_lt, mod-eq-sub-mod, add-mod, 
 use native.Mathlib.Omega.{arith}
 use lib.Dec.{T, eqb→eq}
 use lib.ListN.{length, get_or}
-use Rattle.numbers.proofs.Congruence.{mul_mod_right, pow_mod, subtract_then_add}
+use Rattle.std.proofs.lemmas.Nat.{mul-mod_second, pow-mod}
+use Rattle.numbers.proofs.Congruence.{subtract_then_add}
 use Rattle.numbers.proofs.Inverse.{inverse_is_power, inverse_of_zero}
 use Rattle.numbers.proofs.Power.{pow_one, power_mod_lem, power_even, power_odd}
 use Rattle.numbers.proofs.Table.{at_entry}
@@ -101,7 +102,7 @@ module _ (K : Kind) where
   -- The inverse inverts whatever the prime does not divide.
   pub inverse_inverts : (a : ℕ) → (K.modulus ∣ a → ⊥) → times K a (inverse K a) ≡ 1
   inverse_inverts a na =
-      ap (λ (x : ℕ). (a * x) % K.modulus) (power_is a (K.modulus - 2)) ∙ mul_mod_right a (a ^ (K.modulus - 2)) K.modulus
+      ap (λ (x : ℕ). (a * x) % K.modulus) (power_is a (K.modulus - 2)) ∙ mul-mod_second a (a ^ (K.modulus - 2)) K.modulus
       ∙ inverse_is_power K.modulus K.prime a na
 
   -- The inverse of 0 is 0.
@@ -110,7 +111,7 @@ module _ (K : Kind) where
 
   -- The inverse of a code is that of its residue.
   pub inverse_residue : (a : ℕ) → inverse K (residue K a) ≡ inverse K a
-  inverse_residue a = power_is (residue K a) (K.modulus - 2) ∙ pow_mod a (K.modulus - 2) K.modulus ∙ sym (power_is a (K.modulus - 2))
+  inverse_residue a = power_is (residue K a) (K.modulus - 2) ∙ pow-mod a (K.modulus - 2) K.modulus ∙ sym (power_is a (K.modulus - 2))
 
   -- A table that passes the test holds the inverse of i + 1 at each entry i.
   pub inverse_entry : {A : Type 0} (val : A → ℕ) (d : A) (table : List A) → inverses_right K val table ≡ true → (i : ℕ) → i < length table

@@ -2,7 +2,7 @@
 -- Assumes nothing.
 use Prim.Native.Nat.{ℕ, suc, ◌+◌, ◌≤◌, ◌<◌, zero-le}
 use mathlib.Core.Path.{◌≡◌, refl, ◌∙◌, ap, ap₂}
-use mathlib.Core.List.{List, [], ◌∷◌, ◌++◌, map, append_assoc, append-nil}
+use mathlib.Core.List.{List, [], ◌∷◌, ◌++◌, map, map-append, map-id, append_assoc, append-nil}
 use native.Mathlib.Numerals.{add-one}
 use native.Mathlib.Omega.{arith}
 use lib.ListN.{length, get_or, take, drop, set, length-set, length-map}
@@ -16,14 +16,6 @@ pub record Mapping {A B : Type 0} (f : A → B) (n : ℕ) (l : List A) (before n
   pub room : n ≤ length before
   pub long : length now ≡ length before
   pub so_far : now ≡ map f (take k l) ++ drop k before
-
-map_append : {A B : Type 0} (f : A → B) (xs ys : List A) → map f (xs ++ ys) ≡ map f xs ++ map f ys
-map_append f [] ys = refl
-map_append {B = B} f (x ∷ xs) ys = ap (λ (t : List B). f x ∷ t) (map_append f xs ys)
-
-map_itself : {A : Type 0} (l : List A) → map (λ (a : A). a) l ≡ l
-map_itself [] = refl
-map_itself {A} (n ∷ l) = ap (λ (t : List A). n ∷ t) (map_itself l)
 
 module _ {A B : Type 0} {f : A → B} {n : ℕ} {l : List A} {before : List B} where
   -- At the start nothing is written, and both lists have n elements or more.
@@ -49,7 +41,7 @@ module _ {A B : Type 0} {f : A → B} {n : ℕ} {l : List A} {before : List B} w
           drop-cons before k b,
           set_at (map f (take k l)) (get_or before k b) (drop (suc k) before) (f (get_or l k d)) k size,
           take-suc l k d,
-          map_append,
+          map-append,
           append_assoc,
         );
       }
@@ -62,7 +54,7 @@ module _ {A B : Type 0} {f : A → B} {n : ℕ} {l : List A} {before : List B} w
 
 -- Elements that are copied.
 pub copying_done : {A : Type 0} {n : ℕ} {l before now : List A} {k : ℕ} → Mapping (λ (a : A). a) n l before now k → n ≤ k → now ≡ take n l ++ drop n before
-copying_done {A} {n} {l} {before} i h = mapping_done i h ∙ ap (λ (t : List A). t ++ drop n before) (map_itself (take n l))
+copying_done {A} {n} {l} {before} i h = mapping_done i h ∙ ap (λ (t : List A). t ++ drop n before) (map-id (take n l))
 
 -- A list that has no fewer numbers, over the whole of another.
 pub copied_whole : (to from : List ℕ) → length to ≤ length from → copied to from ≡ take (length to) from

@@ -2,7 +2,7 @@
 -- Assumes nothing.
 use Prim.Native.Nat.{ℕ, zero, suc, ◌+◌, ◌-◌, ◌^◌, ◌/◌, ◌%◌, ◌≤◌, ◌<◌, zero-le}
 use mathlib.Core.Path.{◌≡◌, refl, ap, ◌∙◌}
-use native.Mathlib.Nat.{not-suc-le-zero, le_refl, div-add-mod', pow-suc, zero-lt-suc}
+use native.Mathlib.Nat.{not-suc-le-zero, le_refl, pow-suc, zero-lt-suc}
 use native.Mathlib.Decide.{le_ind}
 use native.Mathlib.Omega.{arith}
 use lib.Arith.{half_le}
@@ -46,9 +46,6 @@ multiplications_at_most e = at_most_within e e
 
 -- ---- the closed form
 
-half_below : (k n : ℕ) → n < 2 ^ suc k → n / 2 < 2 ^ k
-half_below k n h = omega (arith, pow-suc 2 k, div-add-mod' n 2)
-
 -- For an exponent of k digits that is not 0, as a sum, so that nothing is cut off at 0.
 pub multiplications_and_zeros : (k e : ℕ) → 0 < e → e < 2 ^ k → multiplications e + 2 + count_leading_zeros k e ≡ k + ones e
 unfolding count_leading_zeros multiplications multiplications_within ones ones_in
@@ -58,7 +55,7 @@ multiplications_and_zeros (suc k) (suc zero) p h = omega (arith, leading_of_zero
 multiplications_and_zeros (suc k) (suc (suc n)) p h =
     omega (
       arith,
-      multiplications_and_zeros k (suc (suc n) / 2) (omega arith) (half_below k (suc (suc n)) h),
+      multiplications_and_zeros k (suc (suc n) / 2) (omega arith) (omega (arith, pow-suc 2 k)),
       multiplications_step (suc (suc n)) (omega arith),
       ones_step (suc (suc n)),
     )
@@ -70,7 +67,7 @@ some_digit_set zero e p h = absurd (omega arith)
 some_digit_set (suc k) zero p h = absurd (omega arith)
 some_digit_set (suc k) (suc zero) p h = zero-lt-suc 0
 some_digit_set (suc k) (suc (suc n)) p h =
-    omega (arith, some_digit_set k (suc (suc n) / 2) (omega arith) (half_below k (suc (suc n)) h), ones_step (suc (suc n)))
+    omega (arith, some_digit_set k (suc (suc n) / 2) (omega arith) (omega (arith, pow-suc 2 k)), ones_step (suc (suc n)))
 
 -- The digits give the number for every exponent of the kind, 0 included.
 pub by_digits : (K : Kind) (e : ℕ) → e < 2 ^ bits K → multiplications_by_digits K e ≡ multiplications e

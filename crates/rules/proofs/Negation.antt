@@ -1,7 +1,7 @@
 -- Negation of a sketch: it is nothing less the sketch, twice it changes nothing but the last code, and of a difference it is the difference the other way
 -- round. And a count read as a signed number.
 -- Assumes nothing.
-use Prim.Native.Nat.{ℕ, zero, suc, ◌+◌, ◌-◌, ◌%◌, ◌<◌, ◌≤◌, min}
+use Prim.Native.Nat.{ℕ, suc, ◌+◌, ◌-◌, ◌%◌, ◌<◌, ◌≤◌, min}
 use mathlib.Core.Path.{◌≡◌, refl, sym, ◌∙◌, ap, ap₂}
 use mathlib.Core.List.{List, [], ◌∷◌, map}
 use native.Mathlib.Nat.{mod-mod, mod-lt, mod-eq_of_lt}
@@ -58,12 +58,6 @@ map_each : (f : ℕ → ℕ) (g : ℕ → ℕ → ℕ) (k : ℕ) (ss : List ℕ)
 unfolding each
 map_each f g k [] = refl
 map_each f g k (s ∷ ss) = ap (λ (l : List ℕ). f (g k s) ∷ l) (map_each f g _ ss)
-
--- The first of changed numbers are those of the first.
-pub map_first : (f : ℕ → ℕ) (n : ℕ) (ss : List ℕ) → take n (map f ss) ≡ map f (take n ss)
-map_first f zero ss = refl
-map_first f (suc n) [] = refl
-map_first f (suc n) (s ∷ ss) = ap (λ (l : List ℕ). f s ∷ l) (map_first f n ss)
 
 -- ---- the negated sketch
 

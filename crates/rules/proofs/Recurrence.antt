@@ -7,8 +7,9 @@ use mathlib.Core.List.{List, [], ◌∷◌, reverse, reverse_aux}
 use native.Mathlib.Nat.{mul-one, one-mul, zero-mod, mod_self, mod-eq_of_lt, eq-or-lt_of_le}
 use native.Mathlib.Omega.{arith}
 use lib.ListN.{length, get_or, length-reverse}
+use Rattle.std.proofs.lemmas.Nat.{mul-mod_second}
 use Rattle.numbers.proofs.Binomial.{sum_to, sum_first, sum_same}
-use Rattle.numbers.proofs.Congruence.{mul_mod_right, add_congruent}
+use Rattle.numbers.proofs.Congruence.{add_congruent}
 use Rattle.numbers.proofs.Euclid.{divides_none_below}
 use Rattle.numbers.proofs.Power.{one_pow}
 use Rattle.newton.specs.Polynomial.{horner, convolution, entry, lower_terms}
@@ -109,7 +110,7 @@ module _ (K : Kind) (sums : List ℕ) where
 
       head : (suc i * solution (suc i)) % m ≡ x % m
       head =
-          mul_mod_right (suc i) (x * inverse K (suc i)) m ∙ ap (λ (z : ℕ). z % m) (omega arith) ∙ sym (mul_mod_right x (suc i * inverse K (suc i)) m)
+          mul-mod_second (suc i) (x * inverse K (suc i)) m ∙ ap (λ (z : ℕ). z % m) (omega arith) ∙ sym (mul-mod_second x (suc i * inverse K (suc i)) m)
           ∙ ap (λ (z : ℕ). (x * z) % m) (inverse_inverts K (suc i) (divides_none_below m K.prime (suc i) (omega arith) u))
           ∙ ap (λ (z : ℕ). z % m) (mul-one x)
 

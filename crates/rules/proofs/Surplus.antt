@@ -10,6 +10,7 @@ use lib.Dec.{eqb, ltb}
 use lib.IntN.{pos, negsuc, neg_ℤ}
 use lib.ListN.{length, take}
 use borrow.Author.Tests.{eq-eqb, ne_eqb, le-leb}
+use Rattle.std.proofs.lemmas.List.{take-map}
 use Rattle.rules.specs.Kind.{Kind, counts, half_counts}
 use Rattle.rules.specs.Field.{residue, difference, negative}
 use Rattle.rules.specs.Signed.{signed_count, below_zero}
@@ -19,7 +20,7 @@ use Rattle.rules.specs.Decode.{keep, decode, surplus}
 use Rattle.rules.specs.Calls as calls
 use Rattle.rules.specs.Calls.{given}
 use Rattle.rules.specs.History.{History, fresh, sub, sketch_of, Allowed, Leaves, excess, Exceeds}
-use Rattle.rules.proofs.Negation.{map_first, nothing_less, signed_itself, signed_negative}
+use Rattle.rules.proofs.Negation.{nothing_less, signed_itself, signed_negative}
 use Rattle.rules.proofs.Promise.{well_formed_lem, count_exact, keep_none, decode_lists, same_net}
 use Rattle.rules.proofs.Left.{none_left}
 
@@ -104,4 +105,4 @@ same_excess K h g n exceeds others e =
     (first h exceeds.allowed ∙ ap (map (negative K)) e ∙ sym (first g others.allowed))
   where
     first : (k : History) → Allowed K k → take n (sketch_of K (turned K k)).sums ≡ map (negative K) (take n (sketch_of K k).sums)
-    first k a = ap (λ (s : Sketch). take n s.sums) (turned_sketch K k a) ∙ map_first (negative K) n (sketch_of K k).sums
+    first k a = ap (λ (s : Sketch). take n s.sums) (turned_sketch K k a) ∙ take-map (negative K) n (sketch_of K k).sums

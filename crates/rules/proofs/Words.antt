@@ -5,14 +5,16 @@ use mathlib.Core.Path.{◌≡◌, refl, sym, ◌∙◌, ap}
 use mathlib.Core.Bool.{Bool, true, false, cond, ◌&&◌, and-true, and-false, true≢false, false≢true}
 use mathlib.Core.List.{List, [], ◌∷◌, ◌++◌, append_assoc}
 use mathlib.Core.Logic.{◌⊎◌, inl, inr}
-use native.Mathlib.Nat.{zero-add, add_comm, div-add-mod, one-mul, mul-suc, mul-le-mul_left, pow-zero, pow-suc}
+use native.Mathlib.Nat.{zero-add, add_comm, div-add-mod, mul-suc, mul-le-mul_left}
 use native.Mathlib.Omega.{arith}
 use lib.Dec.{leb, ltb, eqb}
 use lib.ListN.{length, get_or, take, drop, length-append, length-drop, length-take}
 use lib.Seq.{take_at, drop_at, take_all, length-take-le, drop-drop, sets, sets-eq, length-sets}
+use borrow.Author.Numbers.{squared}
 use borrow.Author.Tests.{eqb-true, le-leb, lt-leb, leb-true, lt-ltb, ltb-true}
 use borrow.Rule.Slice.PartMut.{put_mid}
 use Rattle.numbers.specs.Table.{every}
+use Rattle.numbers.proofs.Power.{pow_one}
 use Rattle.rules.specs.Kind.{Kind, counts}
 use Rattle.rules.specs.Sketch.{Sketch, Last, nothing, code, has_code, code_or0, last_without, in_range, last_fits, place_fits, well_formed, WellFormed}
 use Rattle.rules.specs.Sums.{all_below}
@@ -110,18 +112,12 @@ pub count_below : (K : Kind) (ws : List ℕ) → ((k : ℕ) → get_or ws k 0 < 
     → count_in K ws < counts
 count_below K ws small room = by_words (256 ^ K.code_bytes) K.count_words K.one_or_two (small 1) (small 2) room
   where
-    once : (b : ℕ) → b ^ 1 ≡ b
-    once b = pow-suc b 0 ∙ ap (λ (z : ℕ). z * b) (pow-zero b) ∙ one-mul b
-
-    twice : (b : ℕ) → b ^ 2 ≡ b * b
-    twice b = pow-suc b 1 ∙ ap (λ (z : ℕ). z * b) (once b)
-
     by_words : (b w : ℕ) → (w ≡ 1) ⊎ (w ≡ 2) → get_or ws 1 0 < b → get_or ws 2 0 < b → b ^ w ≤ counts
         → cond (eqb w 1) (get_or ws 1 0) (get_or ws 1 0 + b * get_or ws 2 0) < counts
-    by_words b w (inl e) low high room = rw e (omega (arith, once b, rw e at room))
+    by_words b w (inl e) low high room = rw e (omega (arith, pow_one b, rw e at room))
     by_words b w (inr e) low high room =
         let most = mul-le-mul_left b high in
-        rw e (omega (arith, most, mul-suc b (get_or ws 2 0), twice b, rw e at room))
+        rw e (omega (arith, most, mul-suc b (get_or ws 2 0), squared b, rw e at room))
 
 -- ---- the words of a well-formed sketch, whatever stands behind them
 

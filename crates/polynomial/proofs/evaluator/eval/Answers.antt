@@ -1,5 +1,5 @@
 -- The two tests in the order of the refusals, and then the value at the code's residue.
-use Rattle.std.proofs.Common.{ℕ, ◌≡◌, ◌<◌, ◌≤◌, ◌==◌, Bool, true, false, Ok, ap, sym, ◌∙◌, arith, length}
+use Rattle.std.proofs.Common.{◌≡◌, Ok, ap, sym, ◌∙◌, arith, length}
 use Rattle.lent.specs.Refusals.{answered}
 use Rattle.rules.specs.Field.{residue}
 use Rattle.rules.specs.Decode.{evaluate}
@@ -8,14 +8,8 @@ use Rattle.rules.proofs.Outcomes.{evaluate_none, evaluate_large, evaluate_given}
 use Rattle.modint.specs.Answers.{val, wrap}
 use Rattle.modint.proofs.Residues.{number}
 use Rattle.modint.proofs.Width.{nums_length}
+use Rattle.polynomial.proofs.Empty.{none, some}
 use Rattle.polynomial.proofs.evaluator.eval.Goals as goal
-
--- Whether there is no coefficient.
-none : (n : ℕ) {b : Bool} → b ≡ n == 0 → b ≡ true → n ≤ 0
-none n e t = grind (arith, e, t)
-
-some : (n : ℕ) {b : Bool} → b ≡ n == 0 → b ≡ false → 0 < n
-some n e t = grind (arith, e, t)
 
 pub returns-then-is_empty : goal.returns-then-is_empty
 returns-then-is_empty g c =

@@ -1,15 +1,12 @@
 -- One block a turn, over the front of what is left of the buffer.
-use Rattle.std.proofs.Common.{ℕ, ◌≡◌, ◌<◌, ◌==◌, Bool, true, List, min, length, take, sym, ap, ◌∙◌, arith}
+use Rattle.std.proofs.Common.{ℕ, ◌≡◌, ◌<◌, List, min, length, take, sym, ap, ◌∙◌, arith}
 use Rattle.std.specs.Slice.Iter.{chunks_rest, chunks_size}
 use Rattle.rules.proofs.Listing.{take_within, no_roots}
 use Rattle.modint.specs.Width.{Width}
 use Rattle.modint.proofs.Width.{nums_length, nums_take}
 use Rattle.polynomial.proofs.Blocks.{blocks_turn, blocks_done}
+use Rattle.polynomial.proofs.Empty.{none}
 use Rattle.polynomial.proofs.evaluator.put_roots.Goals as goal
-
--- No coefficient.
-none : (n : ℕ) {b : Bool} → b ≡ n == 0 → b ≡ true → n ≡ 0
-none n e t = grind (arith, e, t)
 
 -- The entries that the buffer has places for.
 entries : {W : Type 0} (w : Width W) (log : List W) (places : ℕ) → w.nums (take (min (length log) places) log) ≡ take places (w.nums log)

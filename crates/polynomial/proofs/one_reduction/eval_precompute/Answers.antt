@@ -1,5 +1,5 @@
 -- The tests in the order of the refusals, and then the value at the code's residue, reduced once.
-use Rattle.std.proofs.Common.{ℕ, ◌≡◌, ◌≤◌, ◌<◌, ◌==◌, Bool, true, false, Ok, sym, ◌∙◌, ap, arith, length}
+use Rattle.std.proofs.Common.{ℕ, ◌≡◌, Ok, sym, ◌∙◌, ap, arith, length}
 use Rattle.std.proofs.Math.Nat.{mod-mod}
 use Rattle.lent.specs.Refusals.{answered}
 use Rattle.modint.specs.Width.{width16}
@@ -9,21 +9,15 @@ use Rattle.rules.specs.Field.{residue}
 use Rattle.rules.specs.Decode.{evaluate}
 use Rattle.rules.proofs.Evaluate.{evaluate_residue}
 use Rattle.rules.proofs.Outcomes.{evaluate_none, evaluate_large, evaluate_given, once_many, once_plain}
+use Rattle.polynomial.proofs.Empty.{none, some}
 use Rattle.polynomial.proofs.one_reduction.eval_precompute.Goals as goal
-
--- Whether there is no coefficient.
-none : (n : ℕ) {b : Bool} → b ≡ n == 0 → b ≡ true → n ≤ 0
-none n e t = grind (arith, e, t)
-
-some : (n : ℕ) {b : Bool} → b ≡ n == 0 → b ≡ false → 0 < n
-some n e t = grind (arith, e, t)
 
 pub returns-then-is_empty : goal.returns-then-is_empty
 returns-then-is_empty c =
     let cs = c.args.coeffs.now in
     let x = c.args.x.0 in
     let empty = none (length cs) c.is_empty.ensures c.if-is_empty.true in
-    ap (answered (wrap width16)) (sym (once_plain kind16 cs x (omega (arith, empty)) ∙ evaluate_none kind16 cs x empty))
+    ap (answered (wrap width16)) (sym (once_plain kind16 cs x (omega (arith, empty)) ∙ evaluate_none kind16 cs x (omega (arith, empty))))
 
 pub returns-then-coeffs-gt-PLACES : goal.returns-then-coeffs-gt-PLACES
 returns-then-coeffs-gt-PLACES c =

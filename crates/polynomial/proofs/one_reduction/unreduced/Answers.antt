@@ -1,12 +1,13 @@
 -- The last j coefficients added up, and then two more, or one.
 use Rattle.std.proofs.Common.{ℕ, ◌≡◌, ◌+◌, ◌-◌, ◌*◌, ◌%◌, ◌^◌, ◌<◌, ◌++◌, List, [], ◌∷◌, ◌∙◌}
 use Rattle.std.proofs.Common.{None, length, get_or, take, refl, sym, ap, arith, length-append, append_assoc}
-use Rattle.std.proofs.Math.Nat.{mod-eq_of_lt, one-mul, pow-zero, pow-suc}
+use Rattle.std.proofs.Math.Nat.{mod-eq_of_lt}
 use Rattle.std.proofs.Math.Seq.{get_or-take, take-take, take_all}
 use Rattle.std.proofs.lemmas.List.{take_at, get_or-append-add, get_or_append_left}
 use Rattle.std.proofs.lemmas.Option.{slice_get_within, get_or_from_slice_get}
 use Rattle.std.specs.List.{slice_get}
 use Rattle.std.specs.Slice.Exact.{rchunks_exact_rest, rchunks_exact_size}
+use Rattle.numbers.proofs.Power.{pow_one}
 use Rattle.rules.specs.Kind.{kind16}
 use Rattle.rules.proofs.OneReduction.{SumSoFar, sum_start, power_after, sum_turn, sum_done}
 use Rattle.polynomial.proofs.one_reduction.unreduced.Goals.{in-Some-first, in_default}
@@ -37,9 +38,7 @@ module _ (cs single rest after pair : List ℕ) (j : ℕ) (whole : single ++ res
 
 -- The first power of a residue is the residue.
 first_power : (x : ℕ) → x < kind16.modulus → x ≡ x ^ 1 % kind16.modulus
-first_power x below =
-    let once : x ^ 1 ≡ x = pow-suc x 0 ∙ ap (λ (z : ℕ). z * x) (pow-zero x) ∙ one-mul x in
-    sym (ap (λ (z : ℕ). z % kind16.modulus) once ∙ mod-eq_of_lt below)
+first_power x below = sym (ap (λ (z : ℕ). z % kind16.modulus) (pow_one x) ∙ mod-eq_of_lt below)
 
 pub loop-pair-init : goal.loop-pair-init
 loop-pair-init c =

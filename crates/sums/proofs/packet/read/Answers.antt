@@ -3,10 +3,11 @@ use Rattle.std.proofs.Common.{ℕ, ◌≡◌, ◌*◌, ◌-◌, refl, ap, ◌∙
 use Rattle.std.specs.Prelude.{Result}
 use Rattle.std.proofs.Math.Nat.{div-add-mod'}
 use Rattle.std.proofs.Math.Seq.{length-take-le}
+use Rattle.std.proofs.lemmas.List.{take_rest}
 use Rattle.rules.specs.Sketch.{Sketch}
 use Rattle.rules.specs.Calls.{Outcome, refused, given, refusal_of, read_for}
 use Rattle.rules.specs.Packet.{sums_at, sketch_in, sums_in, sums_of}
-use Rattle.rules.proofs.Bytes.{all_from, Reads, read_unrefused}
+use Rattle.rules.proofs.Bytes.{Reads, read_unrefused}
 use Rattle.rules.proofs.Packet.{all_numbers_length}
 use Rattle.lent.specs.declared.refusal.Refusal.{Refusal}
 use Rattle.lent.specs.Refusals.{answered}
@@ -53,7 +54,7 @@ put_sums-requires g c =
     let buf = c.args.buf.now in
     let e = (goal.at.put_sums-requires g c).After-sums_at in
     let bytes = ap (λ (n : ℕ). n * k.code_bytes) (as_many g e) in
-    rw (places g e, c.sums_at.ensures, all_from (sums_at k) buf)
+    rw (places g e, c.sums_at.ensures, take_rest buf (sums_at k))
     (omega (arith, bytes, length-drop (sums_at k) buf, div-add-mod' (length buf - sums_at k) k.code_bytes))
 
 pub number_at-requires : goal.number_at-requires
@@ -70,7 +71,7 @@ returns g c =
     let says = (reads g e).says in
     let many = as_many g e in
     let put : w.nums c.put_sums.new.sums ≡ sums_of k buf =
-    c.put_sums.ensures ∙ rw (places g e, c.sums_at.ensures, all_from (sums_at k) buf, many) in
+    c.put_sums.ensures ∙ rw (places g e, c.sums_at.ensures, take_rest buf (sums_at k), many) in
     let long = all_numbers_length k.code_bytes (sums_in k (length buf)) (drop (sums_at k) buf) in
     record {
       answer = rw (says, many, c.count_of.ensures, c.reduce.ensures, c.number_at.ensures);

@@ -2,11 +2,12 @@
 use Rattle.std.proofs.Common.{ℕ, List, ◌≡◌, ◌<◌, ◌≤◌, inl, inr, sym, ◌∙◌, length, arith}
 use Rattle.std.specs.Prelude.{◌⊎◌}
 use Rattle.std.proofs.lemmas.Bool.Decides.{nat_tests}
+use Rattle.std.proofs.lemmas.List.{take_rest}
 use Rattle.rules.specs.Kind.{Kind}
 use Rattle.rules.specs.Sums.{all_below}
 use Rattle.rules.specs.Packet.{sums_at, sums_in, sums_of, sketch_in}
 use Rattle.rules.specs.Calls.{read_for, refused}
-use Rattle.rules.proofs.Bytes.{all_from, read_short, read_none, read_many, read_large, read_crowded, read_given}
+use Rattle.rules.proofs.Bytes.{read_short, read_none, read_many, read_large, read_crowded, read_given}
 use Rattle.sums.proofs.packet.sums_to_read.Given.{Over}
 use Rattle.sums.proofs.packet.sums_to_read.Goals.{After-sums_below}
 use Rattle.sums.proofs.packet.sums_to_read.Goals as goal
@@ -19,7 +20,7 @@ returns-then-buf-at g c =
 module _ (g : Over) (c : After-sums_below g) where
   -- Whether the sums are below the prime is told of all that stands behind the last code.
   below : c.sums_below.result ≡ all_below g.W.Word.width.kind (sums_of g.W.Word.width.kind c.args.buf.now)
-  below = c.sums_below.ensures ∙ rw (all_from c.sums_at-at.result c.args.buf.now, c.sums_at-at.ensures, c.sums_in-threshold.ensures)
+  below = c.sums_below.ensures ∙ rw (take_rest c.args.buf.now c.sums_at-at.result, c.sums_at-at.ensures, c.sums_in-threshold.ensures)
 
   long : sums_at g.W.Word.width.kind ≤ length c.args.buf.now
   long = rw (← c.sums_at-at.ensures) c.if-buf-at.false

@@ -2,10 +2,10 @@
 use Rattle.std.proofs.Common.{ℕ, ◌≡◌, sym, ◌∙◌, ap, ap₂, drop, min}
 use Rattle.std.specs.Prelude.{◌&&◌, Bool}
 use Rattle.std.proofs.Math.Dec.{eqb}
+use Rattle.std.proofs.lemmas.List.{take_rest}
 use Rattle.numbers.specs.Table.{every}
 use Rattle.rules.specs.Sketch.{place_fits}
 use Rattle.rules.specs.Sums.{greatest, all_below}
-use Rattle.rules.proofs.Bytes.{all_from}
 use Rattle.rules.proofs.Most.{places_split}
 use Rattle.modint.proofs.Width.{nums_length, nums_take, nums_drop}
 use Rattle.sums.proofs.places.places_fit.Given.{Over}
@@ -29,7 +29,7 @@ pub returns-then-all_below : goal.returns-then-all_below
 returns-then-all_below g c =
     let w = g.W.Word.width in
     let l = c.args.places.now in
-    let rest = c.greatest.ensures ∙ ap (λ m. greatest (w.nums m)) (all_from c.min-used.result l) in
+    let rest = c.greatest.ensures ∙ ap (λ m. greatest (w.nums m)) (take_rest l c.min-used.result) in
     c.eq.ensures ∙ g.met.W.Word.same _ _ ∙ ap₂ eqb rest c.zero.ensures
     ∙ sym (split g (goal.at.returns-then-all_below g c).After-all_below ∙ rw c.if-all_below.true)
 
