@@ -60,7 +60,7 @@ impl Layout for u16 {
     }
 }
 
-// The words before the sums, stored.
+// The words before the sums, stored. Its callers change one part or two of a `Head`, and would build one only to have it taken apart here.
 pub(crate) fn put_head<W: Layout>(words: &mut [W], threshold: usize, count: u32, last: Option<W>)
     requires { (head_words W.width.kind ≤ length words.old) × (threshold ≤ W.width.kind.greatest) }
     ensures { W.width.nums words.new

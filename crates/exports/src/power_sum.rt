@@ -15,6 +15,7 @@ pub fn new<W: Layout>(threshold: usize, out: &mut [W]) -> Result<(), Refusal>
     ensures answer { result ≡ changed (new_in W.width.kind threshold (length out.old)) }
     ensures words { W.width.nums out.new ≡ written (new_in W.width.kind threshold (length out.old)) (W.width.nums out.old) }
 {
+    // Two comparisons, as in `words`: each tells the proof one bound, which a range's `contains` tells only together.
     if threshold < 1 || PLACES < threshold {
         return Err(Refusal::ThresholdOutOfRange);
     }

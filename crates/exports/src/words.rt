@@ -65,7 +65,7 @@ pub(crate) fn head_of<W: Layout>(words: &[W]) -> Result<Head<W>, Refusal>
     find_head(words).ok_or(Refusal::NotWellFormed)
 }
 
-// A last code, or none where it is the residue x.
+// A last code, or none where it is the residue x: of words, where `power_sum` says it of residues, which only the field makes.
 pub(crate) fn without<W: Word>(last: Option<W>, x: W) -> Option<W>
     ensures { last_of W.width result ≡ last_without (last_of W.width last) (W.width.num x) }
 {

@@ -16,15 +16,15 @@ use std::ops::{Add, Mul, Neg, Sub};
 use word::Word;
 
 // A code as it is printed on a piece: any word.
-#[derive(Clone, Copy)]
+#[derive(Clone, Copy, Debug, PartialEq, Eq)]
 pub struct Code<W>(pub W);
 
 // A residue modulo the prime. Only a reduction turns a code into one.
-#[derive(Clone, Copy)]
+#[derive(Clone, Copy, Debug, PartialEq, Eq)]
 pub struct Residue<W>(W);
 
 // A power, and the number of field multiplications that were made for it.
-#[derive(Clone, Copy)]
+#[derive(Clone, Copy, Debug, PartialEq, Eq)]
 pub struct Powered<W> {
     pub value: Residue<W>,
     pub multiplications: u32,

@@ -86,7 +86,7 @@ impl Word for u16 {
     }
 
     fn greater_of(self, other: u16) -> u16 {
-        if self < other { other } else { self }
+        self.max(other)
     }
 
     fn below(self) -> u16 {

@@ -6,7 +6,7 @@ ghost use Rattle.modint.specs.Answers.{wrap};
 use crate::word::Word;
 use crate::{Code, Residue};
 
-// The inverse of i + 1: from the table, and past its end by the power.
+// The inverse of i + 1: from the table, and past its end by the power. A test and an index: the law of the table is of entries below its length.
 pub fn inverse_at<W: Word>(i: usize) -> Residue<W>
     ensures { result ≡ wrap W.width (inverse_at W.width.kind i) }
 {

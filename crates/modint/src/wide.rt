@@ -86,7 +86,7 @@ impl Word for u32 {
     }
 
     fn greater_of(self, other: u32) -> u32 {
-        if self < other { other } else { self }
+        self.max(other)
     }
 
     fn below(self) -> u32 {

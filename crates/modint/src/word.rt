@@ -9,7 +9,8 @@ ghost use Rattle.modint.specs.Answers.{val};
 use crate::{PLACES, Residue};
 
 // The operations take words that are residues and words that are not; what they answer is a residue. Each width has bodies of its own, since a sum or a product
-// needs room that is another type, or other steps, at another width.
+// needs room that is another type, or other steps, at another width. The shortest read alike at both: as bodies of the trait, each such line would need a law
+// of a further bound, as `From`, `Ord` or `Sub`.
 pub trait Word: Copy + PartialEq {
     ghost width: { Width Self };
 

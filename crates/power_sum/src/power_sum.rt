@@ -57,7 +57,7 @@ fn last_without<W: Word>(last: Option<Residue<W>>, x: Residue<W>) -> Option<Resi
     ensures { result ≡ last_to W.width (last_without (last_of W.width last) (val W.width x)) }
 {
     let y = last?;
-    if y.value() == x.value() { None } else { last }
+    if y == x { None } else { last }
 }
 
 // The residues of numbers.
