@@ -3,7 +3,7 @@
 // Lists and texts stand in arrays of a fixed size, since there is no heap.
 #![tactic(auto)]
 
-ghost use Rattle.std.specs.Prelude.{◌≡◌, ◌≤◌, IfOk, length};
+ghost use Rattle.std.specs.Prelude.{◌≡◌, ◌≤◌, length};
 ghost use Rattle.desk_rules.specs.Desk.{most_lines};
 ghost use Rattle.desk_reader.specs.Reader.{start_of};
 ghost use Rattle.desk.specs.Input.{room, after_read, log_after_read, got_after_read, Came, Answered};
@@ -33,19 +33,19 @@ fn after_read(
     told: io::Result<usize>,
     piece: &[u8],
 ) -> ControlFlow<Reading, Reading>
-    requires { IfOk told (λ n. n ≤ length piece.now) }
     ensures answer { result ≡ after_read reading log.old got.old told piece.now }
     ensures log { log.new ≡ log_after_read reading log.old got.old told piece.now }
     ensures got { got.new ≡ got_after_read reading log.old got.old told piece.now }
 {
-    match told {
-        Err(_) => ControlFlow::Break(unread(rt)),
-        Ok(0) => ControlFlow::Break(reading),
-        Ok(n) => {
-            let fed = desk_reader::feed(reading, log, got, &piece[..n]);
-            ControlFlow::Continue(fed.unwrap_or(reading))
-        }
+    let Ok(told) = told else {
+        return ControlFlow::Break(unread(rt));
+    };
+    let n = told.min(piece.len());
+    if n == 0 {
+        return ControlFlow::Break(reading);
     }
+    let fed = desk_reader::feed(reading, log, got, &piece[..n]);
+    ControlFlow::Continue(fed.unwrap_or(reading))
 }
 
 // The whole input. A loop that is proved has to end, and nothing says that an input does: the reads are counted to a number that no run reaches, and an
