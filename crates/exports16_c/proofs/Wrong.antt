@@ -19,7 +19,6 @@ use Rattle.rules.specs.Words.{head_words, has_at, head, read_in, negate_in, deco
 use Rattle.rules.specs.Determines.{Holds, RefusesBoth, RefusesAll, MustAnswer}
 use Rattle.rules.proofs.Determined.{lent, lent_mut, both_differ, must_answer, all_differ}
 use Rattle.lent.specs.declared.Number.{Number}
-use Rattle.lent.specs.Answers.{counted}
 use Rattle.exports16_c.specs.declared.evaluator.Evaluated.{Evaluated}
 use Rattle.exports16_c.proofs.power_sum.eddy16_new.Reads as new
 use Rattle.exports16_c.proofs.power_sum.eddy16_well_formed.Reads as well_formed_call
@@ -44,6 +43,10 @@ use Rattle.exports16_c.proofs.field.eddy16_field_mul.Reads as mul
 use Rattle.exports16_c.proofs.field.eddy16_field_inv.Reads as inv
 use Rattle.exports16_c.proofs.field.eddy16_field_pow.Reads as pow
 use Rattle.exports16_c.proofs.field.eddy16_field_pow_multiplications.Reads as pow_multiplications
+
+-- So many were written.
+abbrev counted : ℕ → Number
+counted n = record { refusal = 0; value = n }
 
 -- What is read off an answer, and off a list.
 abbrev itself : ℕ → ℕ
