@@ -6,7 +6,7 @@ usage: tools/spell_names.py [--check]
 A name that the files of specs/ and proofs/ declare gets an underscore for each dash and before each further word, as `power_mod` for `powerMod` and
 `castle_exact` for `castle-exact`; the one definition that gives a fact and began with a small letter is `Holds`. Where a lemma would meet a definition it ends in `_lem`.
 A name that a file imports from a library stays, and so does a name that Rattle makes: a field of a step, and a name that a file of a function's folder gives to a
-goal, an invariant or a measure. Edits that must fail, the passages of widths/16.edits and the code spans of the documents follow. With --check nothing is written.
+goal, an invariant or a measure. Edits that must fail and the code spans of the documents follow. With --check nothing is written.
 """
 import json
 import re
@@ -203,7 +203,7 @@ def main(check):
             changed += 1
             if not check:
                 path.write_text(new)
-    for path in [TOP / "README.md", *sorted((TOP / "docs").glob("*.md")), TOP / "compare" / "README.md", TOP / "widths" / "16.edits"]:
+    for path in [TOP / "README.md", *sorted((TOP / "docs").glob("*.md")), TOP / "compare" / "README.md"]:
         if not path.is_file() or path.name == "PORT.md":
             continue
         text = path.read_text()
