@@ -1,4 +1,5 @@
 -- What the head of words tells of the sketch that they say.
+-- The answers that want one of these facts cite them in a line each, since the line names the step of its own call.
 -- Assumes nothing.
 use Rattle.std.proofs.Common.{◌≡◌, ◌+◌, ◌≤◌, Bool, true, false, List, length, take, drop, Result, Ok, Err, sym, refl, ap, ◌∙◌, arith}
 use Rattle.rules.specs.Sketch.{Last, nothing, code, WellFormed}
