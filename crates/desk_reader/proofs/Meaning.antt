@@ -26,9 +26,7 @@ use Rattle.modint.specs.Width.{width32}
 use Rattle.power_sum.specs.Answers as any
 use Rattle.desk_reader.specs.Sketches.{Quack, built, insert_of}
 use Rattle.lent.specs.declared.refusal.Refusal.{Refusal}
-use Rattle.lent.specs.declared.refusal.Refusal.TheVariants.{TooManyLines}
 use Rattle.lent.specs.Refusals as refusals
-use Rattle.lent.specs.Refusals.{number_of, refusal_numbered}
 use Rattle.std.specs.Result.{result_unwrap_or}
 use Rattle.power_sum.proofs.Struct.{view_built, built_well_formed}
 use Rattle.desk_reader.specs.declared.bytes.Key.TheVariants.{Threshold, Log, Got}
@@ -95,7 +93,7 @@ abbrev desk_of : Seen → Desk
 desk_of unbegun = empty_desk Unbegun
 desk_of (logs T l) = record { phase = Logs; entries = length l; gots = 0; sent = built (codes T l); arrived = built (codes T []) }
 desk_of (gots T l g) = record { phase = Gots; entries = length l; gots = length g; sent = built (codes T l); arrived = built (codes T g) }
-desk_of (stopped n) = empty_desk (Stopped (refusal_numbered n))
+desk_of (stopped n) = empty_desk (Stopped n)
 
 -- The log codes of these lines.
 abbrev entries_of : Seen → List ℕ
@@ -111,12 +109,12 @@ gots_of (logs T l) = []
 gots_of (gots T l g) = g
 gots_of (stopped n) = []
 
--- Their threshold, where they have one, is in range; and the number of their refusal, where there is one, is a refusal's.
+-- Their threshold, where they have one, is in range.
 abbrev Ranged : Seen → Type 0
 Ranged unbegun = Unit {0}
 Ranged (logs T l) = InRange T
 Ranged (gots T l g) = InRange T
-Ranged (stopped n) = number_of (refusal_numbered n) ≡ n
+Ranged (stopped n) = Unit {0}
 
 -- The whole lines: the desk, and the entries and the got codes at the front of the lent lists.
 pub record Holds (s : Seen) (d : Desk) (log got : List ℕ) : Type 0 where
@@ -144,15 +142,15 @@ entries_few (stopped n) d log got h = rw h.desk (zero-le, zero-le)
 -- ---- a whole line
 
 -- A refusal holds with any lists.
-holds_stopped : (n : ℕ) (log got : List ℕ) → number_of (refusal_numbered n) ≡ n → Holds (stopped n) (desk_of (stopped n)) log got
-holds_stopped n log got numbered = record { desk = refl; entries = refl; arrived = refl; few = zero-le; few_gots = zero-le; ranged = numbered }
+holds_stopped : (n : ℕ) (log got : List ℕ) → Holds (stopped n) (empty_desk (Stopped n)) log got
+holds_stopped n log got = record { desk = refl; entries = refl; arrived = refl; few = zero-le; few_gots = zero-le; ranged = tt }
 
 -- A threshold line: a fresh sketch, or the refusal 1.
 holds_started : (T : ℕ) (log got : List ℕ) (ok : Bool) → in_range kind32 T ≡ ok
     → Holds (cond ok (logs T []) (stopped 1)) (started_desk (refusals.answered built (unless ok 1 (given (sketch.fresh T))))) log got
 holds_started T log got true e =
     record { desk = refl; entries = refl; arrived = refl; few = zero-le; few_gots = zero-le; ranged = in_range_parts kind32 T e }
-holds_started T log got false e = holds_stopped 1 log got refl
+holds_started T log got false e = holds_stopped 1 log got
 
 -- One more stored behind the first of a list.
 one_stored : (c : ℕ) (l list : List ℕ) → take (length l) list ≡ l → length l < length list
@@ -163,7 +161,7 @@ one_stored c l list front within = rw (length_push l c, add-one, take-suc-set li
 module _ (T c : ℕ) (l log got : List ℕ) (front : take (length l) log ≡ l) (few : length l ≤ most_lines) (range : InRange T) where
   -- A log line: the code is stored behind them, or the refusal 10.
   holds_logged : (room : Bool) → ltb (length l) most_lines ≡ room → most_lines ≤ length log
-      → Holds (cond room (logs T (l ++ (c ∷ []))) (stopped 10)) (cond room (log_desk (desk_of (logs T l)) c) (empty_desk (Stopped TooManyLines)))
+      → Holds (cond room (logs T (l ++ (c ∷ []))) (stopped 10)) (cond room (log_desk (desk_of (logs T l)) c) (empty_desk (Stopped 10)))
       (cond room (set log (length l) c) log) got
   holds_logged true e places =
       let more = ltb-true (length l) most_lines e in
@@ -176,11 +174,11 @@ module _ (T c : ℕ) (l log got : List ℕ) (front : take (length l) log ≡ l) 
         few_gots = zero-le;
         ranged = range;
       }
-  holds_logged false e places = holds_stopped 10 log got refl
+  holds_logged false e places = holds_stopped 10 log got
 
   -- A got line: the log stays, and the code is stored behind the got codes, or the refusal 10.
   holds_got : (g : List ℕ) → take (length g) got ≡ g → (room : Bool) → ltb (length g) most_lines ≡ room → most_lines ≤ length got
-      → Holds (cond room (gots T l (g ++ (c ∷ []))) (stopped 10)) (cond room (got_desk (desk_of (gots T l g)) c) (empty_desk (Stopped TooManyLines))) log
+      → Holds (cond room (gots T l (g ++ (c ∷ []))) (stopped 10)) (cond room (got_desk (desk_of (gots T l g)) c) (empty_desk (Stopped 10))) log
       (cond room (set got (length g) c) got)
   holds_got g got_front true e places =
       let more = ltb-true (length g) most_lines e in
@@ -193,38 +191,38 @@ module _ (T c : ℕ) (l log got : List ℕ) (front : take (length l) log ≡ l) 
         few_gots = omega (arith, length_push g c);
         ranged = range;
       }
-  holds_got g got_front false e places = holds_stopped 10 log got refl
+  holds_got g got_front false e places = holds_stopped 10 log got
 
 -- A whole line does to the reader what it does to the rules.
 takes : (s : Seen) (l : Line) (log got : List ℕ) → Holds s (desk_of s) log got → most_lines ≤ length log → most_lines ≤ length got
     → Holds (next kind32 s (said l)) (take_line (desk_of s) l) (taken_log (desk_of s) l log) (taken_got (desk_of s) l got)
 unfolding next take_line taken_log taken_got any.new_of calls.make
-takes unbegun Fresh log got h room places = holds_stopped 9 log got refl
-takes unbegun (Word k at) log got h room places = holds_stopped 9 log got refl
+takes unbegun Fresh log got h room places = holds_stopped 9 log got
+takes unbegun (Word k at) log got h room places = holds_stopped 9 log got
 takes unbegun (Value Threshold v) log got h room places = holds_started v log got (in_range kind32 v) refl
-takes unbegun (Value Log v) log got h room places = holds_stopped 9 log got refl
-takes unbegun (Value Got v) log got h room places = holds_stopped 9 log got refl
-takes unbegun Bad log got h room places = holds_stopped 9 log got refl
-takes (logs T l) Fresh log got h room places = holds_stopped 9 log got refl
-takes (logs T l) (Word k at) log got h room places = holds_stopped 9 log got refl
-takes (logs T l) (Value Threshold v) log got h room places = holds_stopped 9 log got refl
+takes unbegun (Value Log v) log got h room places = holds_stopped 9 log got
+takes unbegun (Value Got v) log got h room places = holds_stopped 9 log got
+takes unbegun Bad log got h room places = holds_stopped 9 log got
+takes (logs T l) Fresh log got h room places = holds_stopped 9 log got
+takes (logs T l) (Word k at) log got h room places = holds_stopped 9 log got
+takes (logs T l) (Value Threshold v) log got h room places = holds_stopped 9 log got
 takes (logs T l) (Value Log v) log got h room places =
     holds_logged T v l log got h.entries h.few h.ranged (ltb (length l) most_lines) refl room
 takes (logs T l) (Value Got v) log got h room places = holds_got T v l log got h.entries h.few h.ranged [] refl true refl places
-takes (logs T l) Bad log got h room places = holds_stopped 9 log got refl
-takes (gots T l g) Fresh log got h room places = holds_stopped 9 log got refl
-takes (gots T l g) (Word k at) log got h room places = holds_stopped 9 log got refl
-takes (gots T l g) (Value Threshold v) log got h room places = holds_stopped 9 log got refl
-takes (gots T l g) (Value Log v) log got h room places = holds_stopped 9 log got refl
+takes (logs T l) Bad log got h room places = holds_stopped 9 log got
+takes (gots T l g) Fresh log got h room places = holds_stopped 9 log got
+takes (gots T l g) (Word k at) log got h room places = holds_stopped 9 log got
+takes (gots T l g) (Value Threshold v) log got h room places = holds_stopped 9 log got
+takes (gots T l g) (Value Log v) log got h room places = holds_stopped 9 log got
 takes (gots T l g) (Value Got v) log got h room places =
     holds_got T v l log got h.entries h.few h.ranged g h.arrived (ltb (length g) most_lines) refl places
-takes (gots T l g) Bad log got h room places = holds_stopped 9 log got refl
-takes (stopped n) Fresh log got h room places = holds_stopped n log got h.ranged
-takes (stopped n) (Word k at) log got h room places = holds_stopped n log got h.ranged
-takes (stopped n) (Value Threshold v) log got h room places = holds_stopped n log got h.ranged
-takes (stopped n) (Value Log v) log got h room places = holds_stopped n log got h.ranged
-takes (stopped n) (Value Got v) log got h room places = holds_stopped n log got h.ranged
-takes (stopped n) Bad log got h room places = holds_stopped n log got h.ranged
+takes (gots T l g) Bad log got h room places = holds_stopped 9 log got
+takes (stopped n) Fresh log got h room places = holds_stopped n log got
+takes (stopped n) (Word k at) log got h room places = holds_stopped n log got
+takes (stopped n) (Value Threshold v) log got h room places = holds_stopped n log got
+takes (stopped n) (Value Log v) log got h room places = holds_stopped n log got
+takes (stopped n) (Value Got v) log got h room places = holds_stopped n log got
+takes (stopped n) Bad log got h room places = holds_stopped n log got
 
 -- ---- a byte, and any bytes
 

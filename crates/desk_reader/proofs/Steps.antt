@@ -26,7 +26,7 @@ phase_length : (p : Phase) (list logs gots : List ℕ) → length logs ≡ lengt
 phase_length Unbegun list logs gots e f = refl
 phase_length Logs list logs gots e f = e
 phase_length Gots list logs gots e f = f
-phase_length (Stopped r) list logs gots e f = refl
+phase_length (Stopped n) list logs gots e f = refl
 
 -- A whole line leaves the lent log as long as it was.
 pub taken_length : (d : Desk) (l : Line) (log : List ℕ) → length (taken_log d l log) ≡ length log

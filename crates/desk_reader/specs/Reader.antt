@@ -7,10 +7,9 @@ use Rattle.desk_reader.specs.Sketches.{Quack}
 use Rattle.desk_reader.specs.Sketches.{empty, new_of, insert_of}
 use Rattle.std.specs.Result.{result_unwrap_or}
 use Rattle.rules.specs.Kind.{kind32}
-use Rattle.rules.specs.Calls as calls
 use Rattle.lent.specs.declared.refusal.Refusal.{Refusal}
-use Rattle.lent.specs.declared.refusal.Refusal.TheVariants.{NoRoom, BadLine, TooManyLines}
-use Rattle.lent.specs.Refusals.{answered}
+use Rattle.lent.specs.declared.refusal.Refusal.TheVariants.{NoRoom}
+use Rattle.lent.specs.Refusals.{number_of}
 use Rattle.desk_rules.specs.Lines.{LF, threshold_word, log_word, got_word, greatest_number, is_digit}
 use Rattle.desk_rules.specs.Desk.{most_lines}
 use Rattle.desk_reader.specs.declared.bytes.Key.{Key}
@@ -66,14 +65,14 @@ by_phase (Stopped n) a b c d = d
 abbrev pub empty_desk : Phase → Desk
 empty_desk p = record { phase = p; entries = 0; gots = 0; sent = empty; arrived = empty }
 
--- A line that is not allowed where it stands is bad, unless an earlier line has decided.
+-- A line that is not allowed where it stands: 9, unless an earlier line has decided.
 abbrev pub bad_line : Desk → Desk
-bad_line d = by_phase d.phase (empty_desk (Stopped BadLine)) (empty_desk (Stopped BadLine)) (empty_desk (Stopped BadLine)) d
+bad_line d = by_phase d.phase (empty_desk (Stopped 9)) (empty_desk (Stopped 9)) (empty_desk (Stopped 9)) d
 
 -- The desk after a threshold line, by what making a sketch answers.
 abbrev pub started_desk : Result Quack Refusal → Desk
 started_desk (Ok fresh) = record { phase = Logs; entries = 0; gots = 0; sent = fresh; arrived = fresh }
-started_desk (Err refusal) = empty_desk (Stopped refusal)
+started_desk (Err refusal) = empty_desk (Stopped (number_of refusal))
 
 -- A threshold line: allowed as the first.
 abbrev pub threshold_line : Desk → ℕ → Desk
@@ -87,9 +86,9 @@ coded c = record { 0 = c }
 abbrev pub log_desk : Desk → ℕ → Desk
 log_desk d c = record { phase = Logs; entries = d.entries + 1; gots = d.gots; sent = result_unwrap_or (insert_of d.sent (coded c)) d.sent; arrived = d.arrived }
 
--- A log line: allowed before the got lines, and refused where there are as many as there may be already.
+-- A log line: allowed before the got lines, and 10 beyond as many as there may be.
 abbrev pub log_line : Desk → ℕ → Desk
-log_line d c = by_phase d.phase (bad_line d) (cond (ltb d.entries most_lines) (log_desk d c) (empty_desk (Stopped TooManyLines))) (bad_line d) (bad_line d)
+log_line d c = by_phase d.phase (bad_line d) (cond (ltb d.entries most_lines) (log_desk d c) (empty_desk (Stopped 10))) (bad_line d) (bad_line d)
 
 -- A log line's code is stored behind the entries so far.
 abbrev pub stored_log : Desk → ℕ → List ℕ → List ℕ
@@ -99,9 +98,9 @@ stored_log d c log = by_phase d.phase log (cond (ltb d.entries most_lines) (set 
 abbrev pub got_desk : Desk → ℕ → Desk
 got_desk d c = record { phase = Gots; entries = d.entries; gots = d.gots + 1; sent = d.sent; arrived = result_unwrap_or (insert_of d.arrived (coded c)) d.arrived }
 
--- A got code where got lines are allowed: refused where there are as many as there may be already.
+-- A got code where got lines are allowed: 10 beyond as many as there may be.
 abbrev pub kept_desk : Desk → ℕ → Desk
-kept_desk d c = cond (ltb d.gots most_lines) (got_desk d c) (empty_desk (Stopped TooManyLines))
+kept_desk d c = cond (ltb d.gots most_lines) (got_desk d c) (empty_desk (Stopped 10))
 
 -- It is stored behind the got codes so far.
 abbrev pub kept_got : Desk → ℕ → List ℕ → List ℕ

@@ -1,5 +1,6 @@
 // Whole lines, one after the other.
 ghost use Rattle.std.specs.Prelude.{◌≡◌, ◌≤◌, ◌<◌, length};
+ghost use Rattle.lent.specs.Refusals.{number_of};
 ghost use Rattle.desk_rules.specs.Desk.{most_lines};
 ghost use Rattle.desk_reader.specs.declared.lines.Phase.TheVariants.{Stopped};
 ghost use Rattle.desk_reader.specs.Sketches.{new_of};
@@ -13,13 +14,14 @@ use power_sum::power_sum::PowerSumQuackU32;
 // How many log lines an input may have, and how many got lines; and how many places the arrays lent for their codes have.
 pub const MOST_LINES: usize = 8192;
 
-// Which lines the input has had, or the refusal by its first bad line.
+// Which lines the input has had, or the number of the refusal by its first bad line.
 #[derive(Clone, Copy, Debug, PartialEq, Eq)]
 pub enum Phase {
     Unbegun,
     Logs,
     Gots,
-    Stopped(Refusal),
+    // A number, also one that is none of the table: `desk_text::answer::finish` answers for any reading, and writes the number that it finds.
+    Stopped(u32),
 }
 
 // What the whole lines so far have given: `sent` is the sketch of the log lines, `arrived` that of the got lines. The log's entries stand in a lent
@@ -51,9 +53,9 @@ impl Desk {
 
     // After the line that is refused.
     fn stopped(refusal: Refusal) -> Desk
-        ensures { result ≡ empty_desk (Stopped refusal) }
+        ensures { result ≡ empty_desk (Stopped (number_of refusal)) }
     {
-        Desk::empty(Phase::Stopped(refusal))
+        Desk::empty(Phase::Stopped(refusal.number()))
     }
 
     // After the threshold line.

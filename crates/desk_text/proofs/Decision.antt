@@ -1,6 +1,6 @@
 -- The laws of the decision at the end of the input: every refusal is one of the table.
 -- Assumes nothing.
-use Rattle.std.proofs.Common.{arith, ℕ, zero, suc, ◌≡◌, List, length, Bool, leb, eqb, ◌&&◌, true, false, ℤ, pos, negsuc, refl, sym, ap, ◌∙◌, Result, Ok, Err, ◌<ℤ◌, ◌≤ℤ◌}
+use Rattle.std.proofs.Common.{arith, ℕ, ◌≡◌, List, length, Bool, leb, eqb, ◌&&◌, true, false, ℤ, pos, negsuc, refl, sym, ap, ◌∙◌, Result, Ok, Err, ◌<ℤ◌, ◌≤ℤ◌}
 use Rattle.std.specs.Result.{is_ok, result_unwrap_or}
 use Rattle.rules.specs.Kind.{kind32}
 use Rattle.rules.specs.Sketch.{Sketch, surplus_in, subtract}
@@ -8,7 +8,6 @@ use Rattle.rules.specs.Decode.{decode, surplus}
 use Rattle.rules.specs.Calls as calls
 use Rattle.rules.specs.Calls.{Outcome, refused, given, unless}
 use mathlib.Core.Bool.{true≢false}
-use borrow.Author.Tests.{ne_eqb}
 use Rattle.lent.specs.declared.refusal.Refusal.{Refusal}
 use Rattle.lent.specs.Refusals.{number_of, refusal_numbered, answered, listed, refusal_or_none}
 use Rattle.power_sum.specs.Answers as any

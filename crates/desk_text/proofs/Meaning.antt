@@ -142,7 +142,7 @@ ends (logs T l) [] d log got h = rw h.desk (decides T l [] log got h.ranged h.en
 ends (logs T l) (b ∷ bs) d log got h = rw (h.desk, bytes_begun Fresh b bs)
 ends (gots T l g) [] d log got h = rw h.desk (decides T l g log got h.ranged h.entries h.arrived h.few h.few_gots Gots)
 ends (gots T l g) (b ∷ bs) d log got h = rw (h.desk, bytes_begun Fresh b bs)
-ends (stopped n) begun d log got h = rw (h.desk, h.ranged)
+ends (stopped n) begun d log got h = rw h.desk
 
 -- So the text is the rules' answer.
 text : (bs : List ℕ) (w : Standing) → Tied (state_after kind32 bs) w → printed (outcome_of w.reading w.log w.got) ≡ desk_answer kind32 bs

@@ -1,15 +1,12 @@
 -- What the end of the input comes to. Definitions only.
 -- Assumes nothing.
-use Rattle.std.specs.Prelude.{ℕ, Bool, true, false, cond, ◌&&◌, List, ℤ, pos, negsuc, eqb, leb, length, take, Result, Ok, Err}
+use Rattle.std.specs.Prelude.{ℕ, Bool, true, false, cond, ◌&&◌, List, ℤ, pos, negsuc, leb, length, take}
 use Rattle.desk_reader.specs.Sketches.{Quack}
 use Rattle.desk_reader.specs.Sketches.{view, built, well_formed_of, signed_count_of, decode_of, decode_surplus_of}
 use Rattle.rules.specs.Kind.{kind32}
 use Rattle.rules.specs.Sketch.{Sketch}
 use Rattle.rules.specs.Calls as calls
 use Rattle.rules.specs.Calls.{Outcome, refused, given, unless, fitting}
-use Rattle.lent.specs.declared.Number.{Number}
-use Rattle.lent.specs.declared.refusal.Refusal.{Refusal}
-use Rattle.lent.specs.Refusals.{number_of, refusal_numbered}
 use Rattle.desk_rules.specs.Desk.{most_lines, Report, reported}
 use Rattle.desk_rules.specs.Text.{printed}
 use Rattle.desk_reader.specs.declared.bytes.Line.{Line}
@@ -54,7 +51,7 @@ ended_by r l g = by_phase r.desk.phase (cond (is_fresh r.line) (told_by (differe
     by_phase Unbegun o = refused 9
     by_phase Logs o = o
     by_phase Gots o = o
-    by_phase (Stopped refusal) o = refused (number_of refusal)
+    by_phase (Stopped n) o = refused n
 
 -- What the reading comes to, with the lists that it was lent.
 unfoldable pub outcome_of : Reading → List ℕ → List ℕ → Outcome Report

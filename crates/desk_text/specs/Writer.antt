@@ -27,10 +27,15 @@ line_of word digits = word ++ (digits ++ (LF ∷ []))
 abbrev pub report_of : Report → rules.Report
 report_of r = record { threshold = r.threshold; count = r.count; found = r.found.now }
 
--- What is told, as the rules have it.
-abbrev pub told : Result Report Refusal → Outcome rules.Report
+-- A report as the rules have it, or the number of the refusal.
+abbrev pub numbered : Result Report Refusal → Outcome rules.Report
+numbered (Ok r) = given (report_of r)
+numbered (Err refusal) = refused (number_of refusal)
+
+-- What is told, as the rules have it: a refusal is its number already.
+abbrev pub told : Result Report ℕ → Outcome rules.Report
 told (Ok r) = given (report_of r)
-told (Err refusal) = refused (number_of refusal)
+told (Err number) = refused number
 
 -- So many bytes lie at the front of a buffer. The second part follows from the first; a caller that lends `&out[..n]` is asked both.
 abbrev pub Within : ℕ → List ℕ → Type 0

@@ -6,7 +6,7 @@ ghost use Rattle.rules.specs.Kind.{kind32};
 ghost use Rattle.rules.specs.Calls.{written, fitting};
 ghost use Rattle.desk_reader.specs.Sketches.{built, signed_count_of};
 ghost use Rattle.desk_rules.specs.Text.{desk_answer};
-ghost use Rattle.desk_text.specs.Writer.{told, Within};
+ghost use Rattle.desk_text.specs.Writer.{numbered, told, Within};
 ghost use Rattle.desk_text.specs.Answer.{difference_of, listed_of, told_by, ended_by, claims, in_bounds, finish_of};
 
 use crate::writer;
@@ -75,7 +75,7 @@ fn decide<'a>(
     codes: Codes,
     found: &'a mut [u32; MOST_LINES],
 ) -> Result<Report<'a>, Refusal>
-    ensures { told result ≡ told_by (difference_of desk) codes.entry.log.now codes.entry.got.now }
+    ensures { numbered result ≡ told_by (difference_of desk) codes.entry.log.now codes.entry.got.now }
 {
     let lacking = difference(desk)?;
     let many = codes.list(lacking, found)?;
@@ -86,19 +86,21 @@ fn decide<'a>(
     })
 }
 
-// What an input comes to: an earlier refusal stands, and an input without a line or with a line begun is refused.
+// What an input comes to, a refusal by its number: an earlier refusal stands, and an input without a line or with a line begun is refused.
 fn outcome<'a>(
     reading: Reading,
     codes: Codes,
     found: &'a mut [u32; MOST_LINES],
-) -> Result<Report<'a>, Refusal>
+) -> Result<Report<'a>, u32>
     ensures { told result ≡ ended_by reading codes.entry.log.now codes.entry.got.now }
 {
     let Reading { desk, line } = reading;
     match (desk.phase, line) {
-        (Phase::Stopped(refusal), _) => Err(refusal),
-        (Phase::Logs | Phase::Gots, Line::Fresh) => decide(desk, codes, found),
-        _ => Err(Refusal::BadLine),
+        (Phase::Stopped(number), _) => Err(number),
+        (Phase::Logs | Phase::Gots, Line::Fresh) => decide(desk, codes, found).map_err(
+            Refusal::number,
+        ),
+        _ => Err(Refusal::BadLine.number()),
     }
 }
 

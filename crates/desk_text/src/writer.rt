@@ -45,11 +45,11 @@ impl<'a> Writer<'a> {
         self.push(b"\n");
     }
 
-    fn answer(&mut self, answer: Result<Report, Refusal>)
+    fn answer(&mut self, answer: Result<Report, u32>)
         ensures { Pushed self.old (printed (told answer.entry)) self.new }
     {
         match answer {
-            Err(refusal) => self.line(b"refusal=", refusal.number()),
+            Err(number) => self.line(b"refusal=", number),
             Ok(report) => self.report(report),
         }
     }
@@ -79,7 +79,7 @@ impl<'a> Writer<'a> {
 
 // The text of an answer, at the front of a lent buffer that has room for it. There is no heap for the text, and a buffer that is too short stays as it was:
 // so the text is measured first.
-pub(crate) fn write(out: &mut [u8], answer: Result<Report, Refusal>) -> Result<usize, Refusal>
+pub(crate) fn write(out: &mut [u8], answer: Result<Report, u32>) -> Result<usize, Refusal>
     ensures answer { result ≡ listed (fitting (printed (told answer.entry)) (length out.old)) }
     ensures text { out.new ≡ written (fitting (printed (told answer.entry)) (length out.old)) out.old }
 {
