@@ -6,4 +6,4 @@ mod field;
 pub mod operation;
 mod sketch;
 pub mod slots;
-pub mod widths;
+mod widths;

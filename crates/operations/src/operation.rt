@@ -7,7 +7,7 @@ use exports::layout::Layout;
 use exports::one_reduction;
 
 // A word that the list has operations for.
-pub trait Operand: Layout + Narrow + Into<u32> {
+pub(crate) trait Operand: Layout + Narrow + Into<u32> {
     // The value with one reduction, which only 16-bit codes have.
     fn eval_precompute(args: &[u32]) -> Option<Answer>;
 }

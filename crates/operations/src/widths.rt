@@ -5,7 +5,7 @@ use modint::word::Word;
 pub(crate) const MOST: usize = 512;
 
 // A word or a byte: numbers that are not too large are one.
-pub trait Narrow: Copy + Default {
+pub(crate) trait Narrow: Copy + Default {
     fn narrow(number: u32) -> Option<Self>;
 }
 
