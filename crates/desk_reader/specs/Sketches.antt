@@ -13,7 +13,7 @@ use Rattle.power_sum.specs.Answers as any
 abbrev pub Quack : Type 0
 Quack = PowerSumQuack ℕ
 
--- The sketch that a struct stands for, and the struct of a sketch.
+-- The sketch that a struct stands for.
 abbrev pub view : Quack → Sketch
 view = any.view width32
 

@@ -1,6 +1,6 @@
 // A line of the list: a kind, the number of arguments, the arguments, the number of answers, the answers.
 
-use operations::{operation, slots};
+use crate::{operation, slots};
 
 // The kinds of operations on 16-bit codes are those on 32-bit codes and this number.
 const NARROW: u32 = 100;

@@ -2,8 +2,14 @@
 // operations there were and how many were not answered as recorded.
 #![tactic(auto)]
 
+mod answer;
+mod field;
 mod line;
+mod operation;
 mod reading;
+mod sketch;
+mod slots;
+mod widths;
 
 use reading::Reading;
 use std::io;

@@ -133,6 +133,11 @@ fn answer<W: Operand>(kind: u32, args: &[u32], slots: &mut Slots<W>) -> Option<A
 }
 
 // Whether the operation is answered as expected.
-pub fn run<W: Operand>(kind: u32, args: &[u32], expected: &[u32], slots: &mut Slots<W>) -> bool {
+pub(crate) fn run<W: Operand>(
+    kind: u32,
+    args: &[u32],
+    expected: &[u32],
+    slots: &mut Slots<W>,
+) -> bool {
     answer(kind, args, slots).is_some_and(|answer| answer.as_slice() == expected)
 }

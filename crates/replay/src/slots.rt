@@ -5,14 +5,14 @@ use crate::operation::Operand;
 use std::alloc::AllocError;
 
 // The most words of a slot.
-pub const LONGEST: usize = 40;
+const LONGEST: usize = 40;
 
 // The first `length` of these words, or all of them where there are not so many: `run` takes any slots, so no length is ruled out. An array,
 // and not an `ArrayVec`, since an operation works on copies of its slots.
 #[derive(Copy)]
-pub struct Slot<W: Operand> {
-    pub length: usize,
-    pub words: [W; LONGEST],
+pub(crate) struct Slot<W: Operand> {
+    length: usize,
+    words: [W; LONGEST],
 }
 
 // By hand, here and of all slots: a derive clones the array, which asks for sizes that are not known of a type parameter.
@@ -51,7 +51,7 @@ impl<W: Operand> Slot<W> {
 
 // The slots that the arguments of an operation name.
 #[derive(Copy)]
-pub struct Slots<W: Operand>(pub [Slot<W>; 3]);
+pub(crate) struct Slots<W: Operand>([Slot<W>; 3]);
 
 impl<W: Operand> Clone for Slots<W> {
     fn clone(&self) -> Result<Slots<W>, AllocError> {
