@@ -5,7 +5,7 @@ use lib.Seq.{take_at}
 use lib.ListN.{length-append}
 use Rattle.rules.specs.Calls.{Outcome, refused, given, refusal_of, written}
 use Rattle.rules.proofs.Bytes.{refused_by}
-use Rattle.rules.proofs.Outcomes.{Numbered, in_table, unrefused}
+use Rattle.rules.proofs.Outcomes.{Numbered, in_table, nonzero, unrefused}
 use Rattle.lent.specs.declared.refusal.Refusal.{Refusal}
 use Rattle.lent.specs.Refusals.{refusal_numbered, answered, changed, listed}
 
@@ -18,7 +18,7 @@ module _ (ws : List ℕ) {r : Result (Unit {0}) Refusal} where
   pub stored : (o : Outcome (List ℕ)) → Numbered o → r ≡ Ok tt → {left after : List ℕ} → left ≡ after → (0 ≡ refusal_of o) × (after ≡ written o ws)
       → record { answer : r ≡ changed o; words : left ≡ written o ws }
   stored o numbered er el both =
-      let found = unrefused o numbered (sym both.0) in
+      let found = unrefused o (nonzero o numbered) (sym both.0) in
       record { answer = er ∙ sym (ap (λ (o : Outcome (List ℕ)). changed o) found.1); words = el ∙ both.1 }
 
   -- A call that is refused by a call below it, by a number that is not 0.

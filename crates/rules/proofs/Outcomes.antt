@@ -2,7 +2,7 @@
 -- Assumes nothing.
 use Prim.Native.Nat.{ℕ, zero, suc, ◌≤◌, ◌<◌, min}
 use mathlib.Core.Path.{◌≡◌, refl, sym, ◌∙◌}
-use mathlib.Core.Bool.{Bool, true, false, cond, ◌&&◌}
+use mathlib.Core.Bool.{Bool, true, false, cond, ◌&&◌, false≢true}
 use mathlib.Core.List.{List, []}
 use native.Mathlib.Omega.{arith}
 use lib.Dec.{leb, ltb, eqb}
@@ -370,7 +370,19 @@ module _ (K : Kind) where
   unfolding read_in
   read_in_numbered bs places = into_words_numbered places (read K bs) (read_numbered bs)
 
+-- ---- no refusal has the number 0
+
+-- An outcome whose refusal, if it is one, is not 0.
+abbrev pub Nonzero : {A : Type 0} → Outcome A → Type 0
+Nonzero (refused n) = eqb n 0 ≡ false
+Nonzero (given a) = Unit {0}
+
+-- A number of the table is not 0.
+pub nonzero : {A : Type 0} (o : Outcome A) → Numbered o → Nonzero o
+nonzero (refused n) h = ne_eqb n 0 (λ e. omega (arith, (in_table n h).0, e))
+nonzero (given a) h = tt
+
 -- So an outcome without a refusal gives something.
-pub unrefused : {A : Type 0} (o : Outcome A) → Numbered o → refusal_of o ≡ 0 → (a : A) × (o ≡ given a)
-unrefused (refused n) h e = absurd (omega (arith, (in_table n h).0, e))
+pub unrefused : {A : Type 0} (o : Outcome A) → Nonzero o → refusal_of o ≡ 0 → (a : A) × (o ≡ given a)
+unrefused (refused n) h e = absurd (false≢true (sym h ∙ eq-eqb n 0 e))
 unrefused (given a) h e = (a, refl)
