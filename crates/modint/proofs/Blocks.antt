@@ -4,10 +4,18 @@
 use Prim.Native.Nat.{ℕ}
 use denote.RattleType.{RattleType}
 use denote.Builtin.{u16, u32}
-use denote.Param.Laws.{Laws, IsCopy}
+use denote.Param.Laws.{Laws, IsCopy, of_field}
+use denote.Param.Shared.{copy_shared}
+use denote.Struct.Field.{u16-field, u32-field}
+use denote.Struct.Laws.{u16-laws, u16-copy, u32-laws, u32-copy}
+use mathlib.Core.Path.{refl}
 use mir.Syntax.{Dict}
 use Rattle.std.specs.declared.clone.Clone as clone
 use Rattle.std.specs.declared.cmp.PartialEq as equal
+use Rattle.std.specs.contracts.prelude.U16Clone.TheImpl as clone16
+use Rattle.std.specs.contracts.prelude.U32Clone.TheImpl as clone32
+use Rattle.std.specs.contracts.prelude.U16PartialEq.TheImpl as equal16
+use Rattle.std.specs.contracts.prelude.U32PartialEq.TheImpl as equal32
 use Rattle.rules.specs.Kind.{Kind, kind16, kind32}
 use Rattle.modint.specs.declared.word.Word as word
 use Rattle.modint.specs.contracts.narrow.U16Word.TheImpl as narrow
@@ -34,6 +42,30 @@ pub record Passed (T : RattleType) : Type 2 where
   pub clone_code : Dict
   pub equal : equal.Ghosts T.Denot
   pub equal_code : Dict
+
+-- What a call for codes of 16 bits is passed.
+pub passed16 : Passed u16
+passed16 = record {
+  laws = of_field u16-field u16-laws refl (copy_shared u16-field u16-copy);
+  copy = u16-copy;
+  word_code = narrow.dict;
+  clone = clone16.ghosts;
+  clone_code = clone16.dict;
+  equal = equal16.ghosts;
+  equal_code = equal16.dict;
+}
+
+-- For codes of 32 bits.
+pub passed32 : Passed u32
+passed32 = record {
+  laws = of_field u32-field u32-laws refl (copy_shared u32-field u32-copy);
+  copy = u32-copy;
+  word_code = wide.dict;
+  clone = clone32.ghosts;
+  clone_code = clone32.dict;
+  equal = equal32.ghosts;
+  equal_code = equal32.dict;
+}
 
 -- What a generic contract promises where a Word block and the rest are passed: a fact of the lifetimes, the arguments, the result and the arguments
 -- at the exit.

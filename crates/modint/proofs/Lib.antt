@@ -1,5 +1,6 @@
 -- What the proofs over any width rest on.
 pub mod Width
+pub mod ByNumbers
 pub mod Residues
 pub mod Blocks
 -- What is proved of the field's calls beside their contracts.

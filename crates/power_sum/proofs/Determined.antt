@@ -1,12 +1,11 @@
 -- Every call of the sketch determines its answer, its refusal, and what it leaves in a buffer that it was lent: any two outcomes that its contract allows
 -- for one input are equal. Over any width. The calls in place stand in InPlace.
 -- Assumes nothing.
-use Rattle.std.proofs.Common.{◌≡◌, ℕ, List, Bor, MutBor, sym, ◌∙◌}
+use Rattle.std.proofs.Common.{ℕ, List, Bor, MutBor}
 use denote.RattleType.{RattleType}
 use contract.Lifetimes.{Lfts}
 use Rattle.modint.specs.declared.Code.{Code}
-use Rattle.modint.specs.Width.{Width}
-use Rattle.modint.proofs.Width.{words_of_numbers}
+use Rattle.modint.proofs.ByNumbers.{DeterminesWords, by_numbers}
 use Rattle.modint.proofs.Blocks.{Word, Passed, passing}
 use Rattle.rules.specs.Determines.{Holds, Determines, DeterminesBoth}
 use Rattle.rules.proofs.Determined.{by_equation, by_equations}
@@ -29,14 +28,6 @@ use Rattle.power_sum.proofs.power_sum.PowerSumQuack.decode_surplus_with_log.Read
 use Rattle.power_sum.proofs.power_sum.PowerSumQuack.serialize.Reads as serialize
 use Rattle.power_sum.proofs.power_sum.PowerSumQuack.serialize_with_hint.Reads as serialize_with_hint
 use Rattle.power_sum.proofs.power_sum.PowerSumQuack.deserialize.Reads as deserialize
-
--- A promise determines its result and the words that a lent slice holds at the end. Where words are numbers, it determines both.
-abbrev pub DeterminesWords : {A W : Type 0} → (A → MutBor (List W) → Type 0) → Type 0
-DeterminesWords {A} {W} promise = (r r' : A) (s s' : MutBor (List W)) → promise r s → promise r' s' → (r ≡ r') × (s.now ≡ s'.now)
-
--- So does an equation for the result and one for the numbers of the words.
-by_numbers : {A W : Type 0} (w : Width W) (rule : A) (left : List ℕ) → DeterminesWords (λ (r : A) (s : MutBor (List W)). (r ≡ rule) × (w.nums s.now ≡ left))
-by_numbers w rule left r r' s s' p p' = (p.0 ∙ sym p'.0, words_of_numbers w s.now s'.now (p.1 ∙ sym p'.1))
 
 module _ {T : RattleType} (w : Word T) (p : Passed T) where
   -- Making a sketch has one answer.
