@@ -6,6 +6,8 @@ pub mod Filled
 pub mod Negated
 pub mod Determined
 pub mod InPlace
+pub mod Asks
+pub mod Handed
 pub mod Idle
 pub mod Wrong
 pub mod Promise

@@ -8,7 +8,7 @@ use contract.Lifetimes.{Lfts}
 use Rattle.numbers.specs.Table.{every}
 use Rattle.newton.specs.Members.{AllBelow}
 use Rattle.modint.specs.Width.{Width, width16, width32}
-use Rattle.modint.proofs.Blocks.{word16, word32, Passed, passing}
+use Rattle.modint.proofs.Blocks.{word16, word32, Passed, passed16, passed32, passing}
 use Rattle.rules.specs.Field.{residue}
 use Rattle.rules.specs.Sketch.{Sketch, fresh, insert, remove, subtract, cut, each, well_formed}
 use Rattle.rules.specs.Packet.{bytes, number, all_bytes, all_numbers, packet, sketch_in}
@@ -97,136 +97,167 @@ trailed_bytes : AtEach (λ w. AllBelow 256 (trailed w))
 unfolding every packet bytes all_bytes
 trailed_bytes = (every_below 256 0 (trailed width16) refl, every_below 256 0 (trailed width32) refl)
 
+-- The lifetime of what is lent for good.
+abbrev forever : Lfts 1
+forever = ([], tt)
+
+-- Two of them.
+abbrev for_two : Lfts 2
+for_two = ([], forever)
+
 module _ (p : Passed u16) (q : Passed u32) where
   -- ---- the calls of the histories run
 
-  module _ (κ : Lfts 1) (κs : Lfts 2) where
-    -- Those of the first history, the first insertion in place, at 16 bits.
-    ran16 : Ran (the_calls word16 p) calls_made (built width16 (left width16))
-    unfolding fresh insert remove subtract cut each every well_formed new_of insert_of remove_of sub_assign_of sub_of write_with_hint_of read_of calls.make
-        calls.insert calls.remove calls.sub_assign calls.sub calls.write_with_hint calls.read packet bytes number all_bytes all_numbers sketch_in
-    ran16 =
-        subtracted
-        (carried_by_hint 2 (sent width16)
-        (inserted (code 9)
-        (subtracted_in_place
-        (inserted (code 13) (inserted (code 11) (inserted (code 7)
-        (inserted (code 5) (removed (code 5) (made 3 (κ, refl)) (inl (κ, refl))) (inr (refl, refl))) (inl (κ, refl))) (inl (κ, refl)))
-        (inl (κ, refl)))
-        (inserted (code 13) (made 3 (κ, refl)) (inl (κ, refl))) (κ, refl)) (inl (κ, refl))) (lit≤ tt)
-        (record { κs = κs; buf = lent_mut (replicate 10 0); buf₁ = lent_mut (sent width16); n = 10; promised = (refl, refl); bytes = refl })
-        (record { κs = κs; packet = lent (sent width16); packet₁ = lent (sent width16); bytes = refl; promised = refl }))
-        (inserted (code 11) (made 3 (κ, refl)) (inl (κ, refl))) (κ, refl)
+  -- Those of the first history, the first insertion in place, at 16 bits.
+  ran16 : Ran (the_calls word16 p) calls_made (built width16 (left width16))
+  unfolding fresh insert remove subtract cut each every well_formed new_of insert_of remove_of sub_assign_of sub_of write_with_hint_of read_of calls.make
+      calls.insert calls.remove calls.sub_assign calls.sub calls.write_with_hint calls.read packet bytes number all_bytes all_numbers sketch_in
+  ran16 =
+      subtracted
+      (carried_by_hint 2 (sent width16)
+      (inserted (code 9)
+      (subtracted_in_place
+      (inserted (code 13) (inserted (code 11) (inserted (code 7)
+      (inserted (code 5) (removed (code 5) (made 3 (forever, refl)) (inl (forever, refl))) (inr (refl, refl))) (inl (forever, refl))) (inl (forever, refl)))
+      (inl (forever, refl)))
+      (inserted (code 13) (made 3 (forever, refl)) (inl (forever, refl))) (forever, refl)) (inl (forever, refl))) (lit≤ tt)
+      (record { κs = for_two; buf = lent_mut (replicate 10 0); buf₁ = lent_mut (sent width16); n = 10; promised = (refl, refl); bytes = refl })
+      (record { κs = for_two; packet = lent (sent width16); packet₁ = lent (sent width16); bytes = refl; promised = refl }))
+      (inserted (code 11) (made 3 (forever, refl)) (inl (forever, refl))) (forever, refl)
 
-    -- At 32 bits.
-    ran32 : Ran (the_calls word32 q) calls_made (built width32 (left width32))
-    unfolding fresh insert remove subtract cut each every well_formed new_of insert_of remove_of sub_assign_of sub_of write_with_hint_of read_of calls.make
-        calls.insert calls.remove calls.sub_assign calls.sub calls.write_with_hint calls.read packet bytes number all_bytes all_numbers sketch_in
-    ran32 =
-        subtracted
-        (carried_by_hint 2 (sent width32)
-        (inserted (code 9)
-        (subtracted_in_place
-        (inserted (code 13) (inserted (code 11) (inserted (code 7)
-        (inserted (code 5) (removed (code 5) (made 3 (κ, refl)) (inl (κ, refl))) (inr (refl, refl))) (inl (κ, refl))) (inl (κ, refl)))
-        (inl (κ, refl)))
-        (inserted (code 13) (made 3 (κ, refl)) (inl (κ, refl))) (κ, refl)) (inl (κ, refl))) (lit≤ tt)
-        (record { κs = κs; buf = lent_mut (replicate 16 0); buf₁ = lent_mut (sent width32); n = 16; promised = (refl, refl); bytes = refl })
-        (record { κs = κs; packet = lent (sent width32); packet₁ = lent (sent width32); bytes = refl; promised = refl }))
-        (inserted (code 11) (made 3 (κ, refl)) (inl (κ, refl))) (κ, refl)
+  -- At 32 bits.
+  ran32 : Ran (the_calls word32 q) calls_made (built width32 (left width32))
+  unfolding fresh insert remove subtract cut each every well_formed new_of insert_of remove_of sub_assign_of sub_of write_with_hint_of read_of calls.make
+      calls.insert calls.remove calls.sub_assign calls.sub calls.write_with_hint calls.read packet bytes number all_bytes all_numbers sketch_in
+  ran32 =
+      subtracted
+      (carried_by_hint 2 (sent width32)
+      (inserted (code 9)
+      (subtracted_in_place
+      (inserted (code 13) (inserted (code 11) (inserted (code 7)
+      (inserted (code 5) (removed (code 5) (made 3 (forever, refl)) (inl (forever, refl))) (inr (refl, refl))) (inl (forever, refl))) (inl (forever, refl)))
+      (inl (forever, refl)))
+      (inserted (code 13) (made 3 (forever, refl)) (inl (forever, refl))) (forever, refl)) (inl (forever, refl))) (lit≤ tt)
+      (record { κs = for_two; buf = lent_mut (replicate 16 0); buf₁ = lent_mut (sent width32); n = 16; promised = (refl, refl); bytes = refl })
+      (record { κs = for_two; packet = lent (sent width32); packet₁ = lent (sent width32); bytes = refl; promised = refl }))
+      (inserted (code 11) (made 3 (forever, refl)) (inl (forever, refl))) (forever, refl)
 
-  module _ (κ : Lfts 1) where
-    -- Those of the two insertions.
-    ran_two : Ran (the_calls word16 p) two_inserted (built width16 (insert width16.kind (insert width16.kind (fresh 2) 7) 9))
-        × Ran (the_calls word32 q) two_inserted (built width32 (insert width32.kind (insert width32.kind (fresh 2) 7) 9))
-    unfolding fresh insert each every well_formed new_of insert_of calls.make calls.insert
-    ran_two = (
-      inserted (code 9) (inserted (code 7) (made 2 (κ, refl)) (inl (κ, refl))) (inl (κ, refl)),
-      inserted (code 9) (inserted (code 7) (made 2 (κ, refl)) (inl (κ, refl))) (inl (κ, refl)),
-    )
+  -- Those of the two insertions.
+  ran_two : Ran (the_calls word16 p) two_inserted (built width16 (insert width16.kind (insert width16.kind (fresh 2) 7) 9))
+      × Ran (the_calls word32 q) two_inserted (built width32 (insert width32.kind (insert width32.kind (fresh 2) 7) 9))
+  unfolding fresh insert each every well_formed new_of insert_of calls.make calls.insert
+  ran_two = (
+    inserted (code 9) (inserted (code 7) (made 2 (forever, refl)) (inl (forever, refl))) (inl (forever, refl)),
+    inserted (code 9) (inserted (code 7) (made 2 (forever, refl)) (inl (forever, refl))) (inl (forever, refl)),
+  )
 
-    -- Those by which more came than was sent.
-    ran_over : Ran (the_calls word16 p) (calls_over width16) (built width16 (over width16)) × Ran (the_calls word32 q) (calls_over width32) (built width32 (over width32))
-    unfolding fresh insert subtract each every well_formed new_of insert_of sub_assign_of calls.make calls.insert calls.sub_assign
-    ran_over = (
-      subtracted_in_place (inserted (code 5) (made 2 (κ, refl)) (inl (κ, refl)))
-          (inserted (code width16.kind.modulus) (inserted (code 7) (inserted (code 5) (made 2 (κ, refl)) (inl (κ, refl))) (inl (κ, refl))) (inl (κ, refl)))
-          (κ, refl),
-      subtracted_in_place (inserted (code 5) (made 2 (κ, refl)) (inl (κ, refl)))
-          (inserted (code width32.kind.modulus) (inserted (code 7) (inserted (code 5) (made 2 (κ, refl)) (inl (κ, refl))) (inl (κ, refl))) (inl (κ, refl)))
-          (κ, refl),
-    )
+  -- Those by which more came than was sent.
+  ran_over : Ran (the_calls word16 p) (calls_over width16) (built width16 (over width16)) × Ran (the_calls word32 q) (calls_over width32) (built width32 (over width32))
+  unfolding fresh insert subtract each every well_formed new_of insert_of sub_assign_of calls.make calls.insert calls.sub_assign
+  ran_over = (
+    subtracted_in_place (inserted (code 5) (made 2 (forever, refl)) (inl (forever, refl)))
+        (inserted (code width16.kind.modulus) (inserted (code 7) (inserted (code 5) (made 2 (forever, refl)) (inl (forever, refl))) (inl (forever, refl))) (inl (forever, refl)))
+        (forever, refl),
+    subtracted_in_place (inserted (code 5) (made 2 (forever, refl)) (inl (forever, refl)))
+        (inserted (code width32.kind.modulus) (inserted (code 7) (inserted (code 5) (made 2 (forever, refl)) (inl (forever, refl))) (inl (forever, refl))) (inl (forever, refl)))
+        (forever, refl),
+  )
 
-    -- Those of the two removals.
-    ran_removed : Ran (the_calls word16 p) two_removed (built width16 (remove width16.kind (remove width16.kind (fresh 2) 7) 0))
-        × Ran (the_calls word32 q) two_removed (built width32 (remove width32.kind (remove width32.kind (fresh 2) 7) 0))
-    unfolding fresh remove each every well_formed new_of remove_of calls.make calls.remove
-    ran_removed = (
-      removed (code 0) (removed (code 7) (made 2 (κ, refl)) (inl (κ, refl))) (inl (κ, refl)),
-      removed (code 0) (removed (code 7) (made 2 (κ, refl)) (inl (κ, refl))) (inl (κ, refl)),
-    )
+  -- Those of the two removals.
+  ran_removed : Ran (the_calls word16 p) two_removed (built width16 (remove width16.kind (remove width16.kind (fresh 2) 7) 0))
+      × Ran (the_calls word32 q) two_removed (built width32 (remove width32.kind (remove width32.kind (fresh 2) 7) 0))
+  unfolding fresh remove each every well_formed new_of remove_of calls.make calls.remove
+  ran_removed = (
+    removed (code 0) (removed (code 7) (made 2 (forever, refl)) (inl (forever, refl))) (inl (forever, refl)),
+    removed (code 0) (removed (code 7) (made 2 (forever, refl)) (inl (forever, refl))) (inl (forever, refl)),
+  )
 
-  -- ---- what is left
+  -- ---- what they promise, whatever they are passed
 
-  module _ (κ : Lfts 1) (κs : Lfts 2) where
-    -- Decoding lists exactly them, with a repeat, in the log's order.
-    pub limit_listed : (ls : Lfts 3) (log₁ : Bor (List ℕ)) (out₁ : MutBor (List ℕ)) (r : Result ℕ Refusal)
-        → AtBoth (passing word16 p decode_with_log.Post) (passing word32 q decode_with_log.Post)
-        (λ post w. post ls (built w (left w), (lent (5 ∷ 7 ∷ 9 ∷ 7 ∷ 11 ∷ 13 ∷ []), (lent_mut (replicate 6 0), tt))) r (built w (left w), (log₁, (out₁, tt)))
-        → (r ≡ Ok 3) × (out₁.now ≡ 7 ∷ 9 ∷ 7 ∷ 0 ∷ 0 ∷ 0 ∷ []))
-    unfolding fresh insert remove subtract cut
-    limit_listed ls log₁ out₁ r =
-        let log = lent (5 ∷ 7 ∷ 9 ∷ 7 ∷ 11 ∷ 13 ∷ []) in
-        let out = lent_mut (replicate 6 0) in (
-          λ h. decode_exact word16 p (ran16 κ κs) two_left.0 ls log log₁ out out₁ r (lit≤ tt) h,
-          λ h. decode_exact word32 q (ran32 κ κs) two_left.1 ls log log₁ out out₁ r (lit≤ tt) h,
-        )
+  -- Decoding lists exactly them, with a repeat, in the log's order.
+  pub any_listed : (ls : Lfts 3) (log₁ : Bor (List ℕ)) (out₁ : MutBor (List ℕ)) (r : Result ℕ Refusal)
+      → AtBoth (passing word16 p decode_with_log.Post) (passing word32 q decode_with_log.Post)
+      (λ post w. post ls (built w (left w), (lent (5 ∷ 7 ∷ 9 ∷ 7 ∷ 11 ∷ 13 ∷ []), (lent_mut (replicate 6 0), tt))) r (built w (left w), (log₁, (out₁, tt)))
+      → (r ≡ Ok 3) × (out₁.now ≡ 7 ∷ 9 ∷ 7 ∷ 0 ∷ 0 ∷ 0 ∷ []))
+  unfolding fresh insert remove subtract cut
+  any_listed ls log₁ out₁ r =
+      let log = lent (5 ∷ 7 ∷ 9 ∷ 7 ∷ 11 ∷ 13 ∷ []) in
+      let out = lent_mut (replicate 6 0) in (
+        λ h. decode_exact word16 p ran16 two_left.0 ls log log₁ out out₁ r (lit≤ tt) h,
+        λ h. decode_exact word32 q ran32 two_left.1 ls log log₁ out out₁ r (lit≤ tt) h,
+      )
 
-    -- The sums determine what is left: both histories keep two sums, which are the same, so each residue has the same net number in both.
-    pub limit_same : AtEach (λ w. (r : ℕ) → net w.kind calls_made r ≡ net w.kind two_inserted r)
-    unfolding fresh insert remove subtract cut each
-    limit_same = (
-      same_net word16 p (ran16 κ κs) two_left.0 (ran_two κ).0 (record { none_below = λ r. omega arith; in_all = refl; enough = lit≤ tt }) refl,
-      same_net word32 q (ran32 κ κs) two_left.1 (ran_two κ).1 (record { none_below = λ r. omega arith; in_all = refl; enough = lit≤ tt }) refl,
-    )
+  -- The signed count is -2.
+  pub any_signed : (κ : Lfts 1) (r : ℤ) → AtBoth (passing word16 p signed_count.Post) (passing word32 q signed_count.Post)
+      (λ post w. post κ (built w (over w), tt) r (built w (over w), tt) → r ≡ negsuc 1)
+  unfolding fresh insert subtract
+  any_signed κ r = (λ h. signed_exact word16 p ran_over.0 two_over.0 κ r h, λ h. signed_exact word32 q ran_over.1 two_over.1 κ r h)
 
-  -- ---- more came than was sent
-
-  module _ (κ : Lfts 1) where
-    -- The signed count is -2.
-    pub limit_signed : (r : ℤ) → AtBoth (passing word16 p signed_count.Post) (passing word32 q signed_count.Post)
-        (λ post w. post κ (built w (over w), tt) r (built w (over w), tt) → r ≡ negsuc 1)
-    unfolding fresh insert subtract
-    limit_signed r = (λ h. signed_exact word16 p (ran_over κ).0 two_over.0 κ r h, λ h. signed_exact word32 q (ran_over κ).1 two_over.1 κ r h)
-
-    -- Decoding the surplus lists exactly them, with a repeat and both codes of the residue 0, in the order of the got codes.
-    pub limit_surplus : (ls : Lfts 3) (got₁ : Bor (List ℕ)) (out₁ : MutBor (List ℕ)) (r : Result ℕ Refusal)
-        → AtBoth (passing word16 p decode_surplus_with_log.Post) (passing word32 q decode_surplus_with_log.Post)
-        (λ post w. post ls (built w (over w), (lent (5 ∷ 7 ∷ 0 ∷ 7 ∷ w.kind.modulus ∷ []), (lent_mut (replicate 5 9), tt))) r (built w (over w), (got₁, (out₁, tt)))
-        → (r ≡ Ok 4) × (out₁.now ≡ 7 ∷ 0 ∷ 7 ∷ w.kind.modulus ∷ 9 ∷ []))
-    unfolding fresh insert subtract
-    limit_surplus ls got₁ out₁ r =
-        let out = lent_mut (replicate 5 9) in (
-          λ h. surplus_exact word16 p (ran_over κ).0 two_over.0 ls (lent (5 ∷ 7 ∷ 0 ∷ 7 ∷ width16.kind.modulus ∷ [])) got₁ out out₁ r (lit≤ tt) h,
-          λ h. surplus_exact word32 q (ran_over κ).1 two_over.1 ls (lent (5 ∷ 7 ∷ 0 ∷ 7 ∷ width32.kind.modulus ∷ [])) got₁ out out₁ r (lit≤ tt) h,
-        )
-
-    -- Both histories keep two sums, which are the same, so each residue has the same net number in both.
-    pub limit_same_excess : AtEach (λ w. (r : ℕ) → excess w.kind (calls_over w) r ≡ excess w.kind two_removed r)
-    unfolding fresh insert remove subtract each
-    limit_same_excess = (
-      same_excess word16 p (ran_over κ).0 two_over.0 (ran_removed κ).0 (record { none_above = λ r. omega arith; in_all = refl; few = lit≤ tt }) refl,
-      same_excess word32 q (ran_over κ).1 two_over.1 (ran_removed κ).1 (record { none_above = λ r. omega arith; in_all = refl; few = lit≤ tt }) refl,
-    )
-
-  -- ---- a packet
+  -- Decoding the surplus lists exactly them, with a repeat and both codes of the residue 0, in the order of the got codes.
+  pub any_surplus : (ls : Lfts 3) (got₁ : Bor (List ℕ)) (out₁ : MutBor (List ℕ)) (r : Result ℕ Refusal)
+      → AtBoth (passing word16 p decode_surplus_with_log.Post) (passing word32 q decode_surplus_with_log.Post)
+      (λ post w. post ls (built w (over w), (lent (5 ∷ 7 ∷ 0 ∷ 7 ∷ w.kind.modulus ∷ []), (lent_mut (replicate 5 9), tt))) r (built w (over w), (got₁, (out₁, tt)))
+      → (r ≡ Ok 4) × (out₁.now ≡ 7 ∷ 0 ∷ 7 ∷ w.kind.modulus ∷ 9 ∷ []))
+  unfolding fresh insert subtract
+  any_surplus ls got₁ out₁ r =
+      let out = lent_mut (replicate 5 9) in (
+        λ h. surplus_exact word16 p ran_over.0 two_over.0 ls (lent (5 ∷ 7 ∷ 0 ∷ 7 ∷ width16.kind.modulus ∷ [])) got₁ out out₁ r (lit≤ tt) h,
+        λ h. surplus_exact word32 q ran_over.1 two_over.1 ls (lent (5 ∷ 7 ∷ 0 ∷ 7 ∷ width32.kind.modulus ∷ [])) got₁ out out₁ r (lit≤ tt) h,
+      )
 
   -- Read and written again, the bytes are those of the sum, with the last code reduced.
-  pub limit_written_again : {s : PowerSumQuack ℕ} {again : List ℕ}
+  pub any_written_again : {s : PowerSumQuack ℕ} {again : List ℕ}
       → (Read word16 p (trailed width16) s → Wrote word16 p s again → again ≡ packet width16.kind 1 (residue width16.kind (most width16)) (5 ∷ []))
       × (Read word32 q (trailed width32) s → Wrote word32 q s again → again ≡ packet width32.kind 1 (residue width32.kind (most width32)) (5 ∷ []))
   unfolding bytes number packet all_bytes
-  limit_written_again = (
+  any_written_again = (
     λ read wrote. read_and_written word16 p (trailed width16) trailed_bytes.0 read wrote,
     λ read wrote. read_and_written word32 q (trailed width32) trailed_bytes.1 read wrote,
   )
+
+-- ---- what is left
+
+-- Decoding lists exactly them, with a repeat, in the log's order.
+pub limit_listed : (ls : Lfts 3) (log₁ : Bor (List ℕ)) (out₁ : MutBor (List ℕ)) (r : Result ℕ Refusal)
+    → AtBoth (passing word16 passed16 decode_with_log.Post) (passing word32 passed32 decode_with_log.Post)
+    (λ post w. post ls (built w (left w), (lent (5 ∷ 7 ∷ 9 ∷ 7 ∷ 11 ∷ 13 ∷ []), (lent_mut (replicate 6 0), tt))) r (built w (left w), (log₁, (out₁, tt)))
+    → (r ≡ Ok 3) × (out₁.now ≡ 7 ∷ 9 ∷ 7 ∷ 0 ∷ 0 ∷ 0 ∷ []))
+limit_listed = any_listed passed16 passed32
+
+-- The sums determine what is left: both histories keep two sums, which are the same, so each residue has the same net number in both.
+pub limit_same : AtEach (λ w. (r : ℕ) → net w.kind calls_made r ≡ net w.kind two_inserted r)
+unfolding fresh insert remove subtract cut each
+limit_same = (
+  same_net word16 passed16 (ran16 passed16 passed32) two_left.0 (ran_two passed16 passed32).0 (record { none_below = λ r. omega arith; in_all = refl; enough = lit≤ tt }) refl,
+  same_net word32 passed32 (ran32 passed16 passed32) two_left.1 (ran_two passed16 passed32).1 (record { none_below = λ r. omega arith; in_all = refl; enough = lit≤ tt }) refl,
+)
+
+-- ---- more came than was sent
+
+-- The signed count is -2.
+pub limit_signed : (κ : Lfts 1) (r : ℤ) → AtBoth (passing word16 passed16 signed_count.Post) (passing word32 passed32 signed_count.Post)
+    (λ post w. post κ (built w (over w), tt) r (built w (over w), tt) → r ≡ negsuc 1)
+limit_signed = any_signed passed16 passed32
+
+-- Decoding the surplus lists exactly them, with a repeat and both codes of the residue 0, in the order of the got codes.
+pub limit_surplus : (ls : Lfts 3) (got₁ : Bor (List ℕ)) (out₁ : MutBor (List ℕ)) (r : Result ℕ Refusal)
+    → AtBoth (passing word16 passed16 decode_surplus_with_log.Post) (passing word32 passed32 decode_surplus_with_log.Post)
+    (λ post w. post ls (built w (over w), (lent (5 ∷ 7 ∷ 0 ∷ 7 ∷ w.kind.modulus ∷ []), (lent_mut (replicate 5 9), tt))) r (built w (over w), (got₁, (out₁, tt)))
+    → (r ≡ Ok 4) × (out₁.now ≡ 7 ∷ 0 ∷ 7 ∷ w.kind.modulus ∷ 9 ∷ []))
+limit_surplus = any_surplus passed16 passed32
+
+-- Both histories keep two sums, which are the same, so each residue has the same net number in both.
+pub limit_same_excess : AtEach (λ w. (r : ℕ) → excess w.kind (calls_over w) r ≡ excess w.kind two_removed r)
+unfolding fresh insert remove subtract each
+limit_same_excess = (
+  same_excess word16 passed16 (ran_over passed16 passed32).0 two_over.0 (ran_removed passed16 passed32).0 (record { none_above = λ r. omega arith; in_all = refl; few = lit≤ tt }) refl,
+  same_excess word32 passed32 (ran_over passed16 passed32).1 two_over.1 (ran_removed passed16 passed32).1 (record { none_above = λ r. omega arith; in_all = refl; few = lit≤ tt }) refl,
+)
+
+-- ---- a packet
+
+-- Read and written again, the bytes are those of the sum, with the last code reduced.
+pub limit_written_again : {s : PowerSumQuack ℕ} {again : List ℕ}
+    → (Read word16 passed16 (trailed width16) s → Wrote word16 passed16 s again → again ≡ packet width16.kind 1 (residue width16.kind (most width16)) (5 ∷ []))
+    × (Read word32 passed32 (trailed width32) s → Wrote word32 passed32 s again → again ≡ packet width32.kind 1 (residue width32.kind (most width32)) (5 ∷ []))
+limit_written_again = any_written_again passed16 passed32

@@ -165,12 +165,13 @@ module _ (p : Passed u16) (q : Passed u32) where
     unfolding fresh each every well_formed sketch.insert sketch.remove remove_of calls.remove
     remove_once_wrong = (both_differ count_of _ _ refl refl, both_differ count_of _ _ refl refl)
 
-    -- The last code stays where the code of which it is the residue is removed: by value, or on a sketch of one's own.
-    pub last_code_kept_wrong : AtBoth (passing word16 p remove.Post) (passing word32 q remove.Post)
+    -- The last code stays where the code of which it is the residue is removed by value.
+    pub last_code_kept_by_value_wrong : AtBoth (passing word16 p remove.Post) (passing word32 q remove.Post)
         (λ post w. Holds (post κs) (large w, (code (most w), tt)) (Ok (kept w)) → ⊥)
     unfolding fresh each every well_formed sketch.insert sketch.remove remove_of calls.remove
-    last_code_kept_wrong = (differs last_of (Ok (kept width16)) refl, differs last_of (Ok (kept width32)) refl)
+    last_code_kept_by_value_wrong = (differs last_of (Ok (kept width16)) refl, differs last_of (Ok (kept width32)) refl)
 
+    -- It stays where that code is removed from a sketch of one's own.
     pub last_code_kept_once_wrong : AtBoth (passing word16 p remove_once.Post) (passing word32 q remove_once.Post)
         (λ post w. Holds (post κs) (large w, (code (most w), tt)) (Ok (kept w)) → ⊥)
     unfolding fresh each every well_formed sketch.insert sketch.remove remove_of calls.remove
@@ -231,6 +232,15 @@ module _ (p : Passed u16) (q : Passed u32) where
       λ h. differs (λ (s : PowerSumQuack ℕ). last_number s.last) (kept width16) refl h.1,
       λ h. differs (λ (s : PowerSumQuack ℕ). last_number s.last) (kept width32) refl h.1,
     )
+
+    -- The last code stays where the code of which it is the residue is removed: by value, in place, or on a sketch of one's own.
+    pub last_code_kept_wrong : (κ : Lfts 1)
+        → AtBoth (passing word16 p remove.Post) (passing word32 q remove.Post) (λ post w. Holds (post κ) (large w, (code (most w), tt)) (Ok (kept w)) → ⊥)
+        × AtBoth (passing word16 p remove_in_place.Post) (passing word32 q remove_in_place.Post)
+        (λ post w. post κs (lent_mut (large w), (code (most w), tt)) (Ok tt) (lent_mut (kept w), (code (most w), tt)) → ⊥)
+        × AtBoth (passing word16 p remove_once.Post) (passing word32 q remove_once.Post)
+        (λ post w. Holds (post κ) (large w, (code (most w), tt)) (Ok (kept w)) → ⊥)
+    last_code_kept_wrong κ = (last_code_kept_by_value_wrong κ, last_code_kept_in_place_wrong, last_code_kept_once_wrong κ)
 
     -- A sketch that is refused in place is changed: one of threshold 0 gets a threshold.
     pub refused_in_place_wrong : AtBoth (passing word16 p insert_in_place.Post) (passing word32 q insert_in_place.Post)
