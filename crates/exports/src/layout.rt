@@ -8,7 +8,7 @@ ghost use Rattle.exports.specs.Heads.{last_of};
 
 use modint::word::Word;
 
-// A count takes one word, or two: all in which the widths differ here.
+// A count takes one word, or two: all in which the widths differ here. Where fewer words are there, a word that is missing is read as 0 and not stored.
 pub trait Layout: Word {
     // How many words stand before the sums.
     const HEAD: usize;
@@ -16,11 +16,9 @@ pub trait Layout: Word {
     ghost HEAD: { ℕ };
 
     fn count_in(words: &[Self]) -> u32
-        requires { head_words Self.width.kind ≤ length words.now }
         ensures { result ≡ count_in Self.width.kind (Self.width.nums words.now) };
 
     fn put_count(words: &mut [Self], count: u32)
-        requires { head_words Self.width.kind ≤ length words.old }
         ensures { Self.width.nums words.new ≡ sets (Self.width.nums words.old) 1 (count_parts Self.width.kind count) };
 
     ghost head: { HEAD ≡ head_words Self.width.kind };
@@ -34,11 +32,13 @@ impl Layout for u32 {
     ghost head = { refl };
 
     fn count_in(words: &[u32]) -> u32 {
-        words[1]
+        words.get(1).copied().unwrap_or(0)
     }
 
     fn put_count(words: &mut [u32], count: u32) {
-        words[1] = count;
+        if 1 < words.len() {
+            words[1] = count;
+        }
     }
 }
 
@@ -51,12 +51,18 @@ impl Layout for u16 {
     ghost head = { refl };
 
     fn count_in(words: &[u16]) -> u32 {
-        u32::from(words[1]) + 65536 * u32::from(words[2])
+        let low = words.get(1).copied().unwrap_or(0);
+        let high = words.get(2).copied().unwrap_or(0);
+        u32::from(low) + 65536 * u32::from(high)
     }
 
     fn put_count(words: &mut [u16], count: u32) {
-        words[1] = (count % 65536) as u16;
-        words[2] = (count / 65536) as u16;
+        if 1 < words.len() {
+            words[1] = (count % 65536) as u16;
+        }
+        if 2 < words.len() {
+            words[2] = (count / 65536) as u16;
+        }
     }
 }
 
