@@ -4,3 +4,8 @@ mod Equal
 mod Fronts
 mod Heads
 mod Stored
+-- What is proved of the calls beside their contracts.
+pub mod Blocks
+pub mod Determined
+pub mod Wrong
+pub mod OneReductionGuards
