@@ -1,43 +1,48 @@
-// What an operation answers: the numbers that stand on its line.
-use crate::widths::MOST;
-use arrayvec::ArrayVec;
+// The answers that a line of the list expects. They are held to an operation's where both stand: to gather an operation's would cost more than the operation.
 use lent::refusal::{Refusal, refusal_or_none};
 
-// The most numbers of an answer: a refusal, a number, and all of a buffer.
-const LONGEST: usize = 2 + MOST;
+// The numbers that a line expects as its operation's answers.
+#[derive(Clone, Copy)]
+pub(crate) struct Expected<'a>(pub(crate) &'a [u32]);
 
-// The numbers of an answer.
-pub(crate) type Answer = ArrayVec<u32, LONGEST>;
-
-pub(crate) fn numbers(numbers: &[u32]) -> Option<Answer> {
-    Answer::try_from(numbers).ok()
-}
-
-// These numbers, and behind them words or bytes.
-pub(crate) fn followed<T: Copy + Into<u32>>(head: &[u32], rest: &[T]) -> Option<Answer> {
-    let mut answer = numbers(head)?;
-    for item in rest {
-        answer.try_push((*item).into()).ok()?;
+impl<'a> Expected<'a> {
+    // Whether they are these numbers.
+    pub(crate) fn are(self, numbers: &[u32]) -> bool {
+        self.0 == numbers
     }
-    Some(answer)
-}
 
-// The answer of a call that changes words: its refusal, and all the words.
-pub(crate) fn changed<T: Copy + Into<u32>>(
-    done: Result<(), Refusal>,
-    words: &[T],
-) -> Option<Answer> {
-    followed(&[refusal_or_none(done)], words)
-}
+    // Whether they are these numbers, and behind them words or bytes.
+    fn are_followed<T: Copy + Into<u32>>(self, head: &[u32], rest: &[T]) -> bool {
+        let Some(numbers) = self.0.strip_prefix(head) else {
+            return false;
+        };
+        numbers.len() == rest.len()
+            && numbers
+                .iter()
+                .zip(rest)
+                .all(|(number, item)| *number == (*item).into())
+    }
 
-// The answer of a call that writes into a buffer: its refusal or how many it wrote, and the whole buffer.
-pub(crate) fn written<T: Copy + Into<u32>>(
-    listed: Result<usize, Refusal>,
-    buffer: &[T],
-) -> Option<Answer> {
-    let (refusal, many) = match listed {
-        Ok(many) => (0, u32::try_from(many).ok()?),
-        Err(refusal) => (refusal.number(), 0),
-    };
-    followed(&[refusal, many], buffer)
+    // Whether they are the answers of a call that changes words: its refusal, and all the words.
+    pub(crate) fn are_changed<T: Copy + Into<u32>>(
+        self,
+        done: Result<(), Refusal>,
+        words: &[T],
+    ) -> bool {
+        self.are_followed(&[refusal_or_none(done)], words)
+    }
+
+    // Whether they are the answers of a call that writes into a buffer: its refusal or how many it wrote, and the whole buffer.
+    pub(crate) fn are_written<T: Copy + Into<u32>>(
+        self,
+        listed: Result<usize, Refusal>,
+        buffer: &[T],
+    ) -> bool {
+        match listed {
+            Ok(many) => {
+                u32::try_from(many).is_ok_and(|many| self.are_followed(&[0, many], buffer))
+            }
+            Err(refusal) => self.are_followed(&[refusal.number(), 0], buffer),
+        }
+    }
 }

@@ -1,5 +1,6 @@
 // A line of the list: a kind, the number of arguments, the arguments, the number of answers, the answers.
 
+use crate::answer::Expected;
 use crate::{operation, slots};
 
 // The kinds of operations on 16-bit codes are those on 32-bit codes and this number.
@@ -14,7 +15,7 @@ pub(crate) struct Slots {
 
 impl Slots {
     // Whether an operation is answered as expected. Its kind is the number that the list has.
-    fn run(&mut self, kind: u32, args: &[u32], expected: &[u32]) -> bool {
+    fn run(&mut self, kind: u32, args: &[u32], expected: Expected<'_>) -> bool {
         match kind.checked_sub(NARROW) {
             None => operation::run(kind, args, expected, &mut self.wide),
             Some(kind) => operation::run(kind, args, expected, &mut self.narrow),
@@ -29,6 +30,6 @@ impl Slots {
         let Some((args, [answers, expected @ ..])) = rest.split_at_checked(*given as usize) else {
             return false;
         };
-        *answers as usize == expected.len() && self.run(*kind, args, expected)
+        *answers as usize == expected.len() && self.run(*kind, args, Expected(expected))
     }
 }

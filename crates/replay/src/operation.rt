@@ -1,5 +1,5 @@
 // An operation of the list: its kind, its arguments, and the answers that are expected.
-use crate::answer::Answer;
+use crate::answer::Expected;
 use crate::slots::Slots;
 use crate::widths::Narrow;
 use crate::{field, sketch};
@@ -8,19 +8,19 @@ use exports::one_reduction;
 
 // A word that the list has operations for.
 pub(crate) trait Operand: Layout + Narrow + Into<u32> {
-    // The value with one reduction, which only 16-bit codes have.
-    fn eval_precompute(args: &[u32]) -> Option<Answer>;
+    // Whether the value with one reduction, which only 16-bit codes have, is answered as expected.
+    fn eval_precompute(args: &[u32], expected: Expected<'_>) -> bool;
 }
 
 impl Operand for u32 {
-    fn eval_precompute(_args: &[u32]) -> Option<Answer> {
-        None
+    fn eval_precompute(_args: &[u32], _expected: Expected<'_>) -> bool {
+        false
     }
 }
 
 impl Operand for u16 {
-    fn eval_precompute(args: &[u32]) -> Option<Answer> {
-        field::evaluated(args, one_reduction::eval_precompute)
+    fn eval_precompute(args: &[u32], expected: Expected<'_>) -> bool {
+        field::evaluated(args, expected, one_reduction::eval_precompute)
     }
 }
 
@@ -95,49 +95,46 @@ impl TryFrom<u32> for Operation {
 }
 
 impl Operation {
-    // What the operation answers. There is no answer where its arguments are too few, too many or no words or bytes.
-    fn answer<W: Operand>(self, args: &[u32], slots: &mut Slots<W>) -> Option<Answer> {
+    // Whether the operation is answered as expected. It is not where its arguments are too few, too many or no words or bytes.
+    fn run<W: Operand>(self, args: &[u32], expected: Expected<'_>, slots: &mut Slots<W>) -> bool {
         match self {
-            Operation::New => sketch::new(args, slots),
-            Operation::Put => sketch::put(args, slots),
-            Operation::WellFormed => sketch::well_formed(args, slots),
-            Operation::Insert => sketch::insert(args, slots),
-            Operation::Remove => sketch::remove(args, slots),
-            Operation::SubAssign => sketch::sub_assign(args, slots),
-            Operation::Sub => sketch::sub(args, slots),
-            Operation::ToCoeffs => sketch::to_coeffs(args, slots),
-            Operation::Eval => field::eval::<W>(args),
-            Operation::EvalPrecompute => W::eval_precompute(args),
-            Operation::DecodeWithLog => sketch::decode_with_log(args, slots),
-            Operation::Serialize => sketch::serialize(args, slots),
-            Operation::SerializeWithHint => sketch::serialize_with_hint(args, slots),
-            Operation::Deserialize => sketch::deserialize(args, slots),
-            Operation::FieldReduce => field::reduce::<W>(args),
-            Operation::FieldAdd => field::add::<W>(args),
-            Operation::FieldSub => field::sub::<W>(args),
-            Operation::FieldMul => field::mul::<W>(args),
-            Operation::FieldNeg => field::neg::<W>(args),
-            Operation::FieldInv => field::inv::<W>(args),
-            Operation::FieldPow => field::pow::<W>(args),
-            Operation::FieldPowMultiplications => field::pow_multiplications::<W>(args),
-            Operation::SignedCount => sketch::signed_count(args, slots),
-            Operation::Negate => sketch::negate(args, slots),
-            Operation::DecodeSurplusWithLog => sketch::decode_surplus_with_log(args, slots),
+            Operation::New => sketch::new(args, expected, slots),
+            Operation::Put => sketch::put(args, expected, slots),
+            Operation::WellFormed => sketch::well_formed(args, expected, slots),
+            Operation::Insert => sketch::insert(args, expected, slots),
+            Operation::Remove => sketch::remove(args, expected, slots),
+            Operation::SubAssign => sketch::sub_assign(args, expected, slots),
+            Operation::Sub => sketch::sub(args, expected, slots),
+            Operation::ToCoeffs => sketch::to_coeffs(args, expected, slots),
+            Operation::Eval => field::eval::<W>(args, expected),
+            Operation::EvalPrecompute => W::eval_precompute(args, expected),
+            Operation::DecodeWithLog => sketch::decode_with_log(args, expected, slots),
+            Operation::Serialize => sketch::serialize(args, expected, slots),
+            Operation::SerializeWithHint => sketch::serialize_with_hint(args, expected, slots),
+            Operation::Deserialize => sketch::deserialize(args, expected, slots),
+            Operation::FieldReduce => field::reduce::<W>(args, expected),
+            Operation::FieldAdd => field::add::<W>(args, expected),
+            Operation::FieldSub => field::sub::<W>(args, expected),
+            Operation::FieldMul => field::mul::<W>(args, expected),
+            Operation::FieldNeg => field::neg::<W>(args, expected),
+            Operation::FieldInv => field::inv::<W>(args, expected),
+            Operation::FieldPow => field::pow::<W>(args, expected),
+            Operation::FieldPowMultiplications => field::pow_multiplications::<W>(args, expected),
+            Operation::SignedCount => sketch::signed_count(args, expected, slots),
+            Operation::Negate => sketch::negate(args, expected, slots),
+            Operation::DecodeSurplusWithLog => sketch::decode_surplus_with_log(
+                args, expected, slots,
+            ),
         }
     }
 }
 
-// What the operation of this kind answers, where there is one.
-fn answer<W: Operand>(kind: u32, args: &[u32], slots: &mut Slots<W>) -> Option<Answer> {
-    Operation::try_from(kind).ok()?.answer(args, slots)
-}
-
-// Whether the operation is answered as expected.
+// Whether there is an operation of this kind, and it is answered as expected.
 pub(crate) fn run<W: Operand>(
     kind: u32,
     args: &[u32],
-    expected: &[u32],
+    expected: Expected<'_>,
     slots: &mut Slots<W>,
 ) -> bool {
-    answer(kind, args, slots).is_some_and(|answer| answer.as_slice() == expected)
+    Operation::try_from(kind).is_ok_and(|operation| operation.run(args, expected, slots))
 }

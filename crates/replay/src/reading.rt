@@ -5,7 +5,7 @@ use arrayvec::ArrayVec;
 
 // A line so far: its whole numbers, the number that is being read, and whether the line is none of the list, which is known before it ends.
 // That is a flag, since an `Option` of the line would move the line at each byte.
-#[derive(Default, PartialEq, Drop)]
+#[derive(Default, Drop)]
 struct Line {
     numbers: ArrayVec<u32, 512>,
     number: Option<u32>,
@@ -34,6 +34,18 @@ impl Line {
             _ => None,
         }
     }
+
+    // Whether any byte of it was read.
+    fn has_begun(&self) -> bool {
+        !self.numbers.is_empty() || self.number.is_some() || self.unreadable
+    }
+
+    // The next line, of which no byte was read, in its place.
+    fn start_anew(&mut self) {
+        self.numbers.clear();
+        self.number = None;
+        self.unreadable = false;
+    }
 }
 
 // The slots, the line that is being read, and what was counted up to it.
@@ -57,7 +69,7 @@ impl Reading {
         if !self.line_agrees() {
             self.differences = self.differences.wrapping_add(1);
         }
-        self.line = Line::default();
+        self.line.start_anew();
     }
 
     pub(crate) fn feed(&mut self, bytes: &[u8]) {
@@ -72,7 +84,7 @@ impl Reading {
 
     // The end of the input ends a line that has begun.
     pub(crate) fn finish(&mut self) {
-        if self.line != Line::default() {
+        if self.line.has_begun() {
             self.end_line();
         }
     }
