@@ -5,8 +5,8 @@ ghost use Rattle.lent.specs.Refusals.{answered, listed};
 ghost use Rattle.rules.specs.Kind.{kind32};
 ghost use Rattle.rules.specs.Calls.{written, fitting};
 ghost use Rattle.desk_reader.specs.Sketches.{built, signed_count_of};
-ghost use Rattle.desk_rules.specs.Text.{desk_answer};
-ghost use Rattle.desk_text.specs.Writer.{numbered, told, Within};
+ghost use Rattle.desk_rules.specs.Text.{printed, desk_answer};
+ghost use Rattle.desk_text.specs.Writer.{numbered, Within};
 ghost use Rattle.desk_text.specs.Answer.{difference_of, listed_of, told_by, ended_by, claims, in_bounds, finish_of};
 
 use crate::writer;
@@ -86,21 +86,24 @@ fn decide<'a>(
     })
 }
 
-// What an input comes to, a refusal by its number: an earlier refusal stands, and an input without a line or with a line begun is refused.
-fn outcome<'a>(
-    reading: Reading,
-    codes: Codes,
-    found: &'a mut [u32; MOST_LINES],
-) -> Result<Report<'a>, u32>
-    ensures { told result ≡ ended_by reading codes.entry.log.now codes.entry.got.now }
+// The text of what an input comes to: an earlier refusal stands, and an input without a line or with a line begun is refused. A list is made only where the
+// sketches decide.
+fn end(reading: Reading, codes: Codes, out: &mut [u8]) -> Result<usize, Refusal>
+    ensures answer { result ≡ listed (fitting (printed (ended_by reading codes.entry.log.now codes.entry.got.now)) (length out.old)) }
+    ensures text { out.new
+        ≡ written (fitting (printed (ended_by reading codes.entry.log.now codes.entry.got.now)) (length out.old)) out.old }
 {
     let Reading { desk, line } = reading;
     match (desk.phase, line) {
-        (Phase::Stopped(number), _) => Err(number),
-        (Phase::Logs | Phase::Gots, Line::Fresh) => decide(desk, codes, found).map_err(
-            Refusal::number,
-        ),
-        _ => Err(Refusal::BadLine.number()),
+        (Phase::Stopped(number), _) => writer::write(out, Err(number)),
+        (Phase::Logs | Phase::Gots, Line::Fresh) => {
+            let mut found = [0; MOST_LINES];
+            writer::write(
+                out,
+                decide(desk, codes, &mut found).map_err(Refusal::number),
+            )
+        }
+        _ => writer::write(out, Err(Refusal::BadLine.number())),
     }
 }
 
@@ -114,8 +117,7 @@ pub fn finish(reading: Reading, log: &[u32], got: &[u32], out: &mut [u8]) -> Res
     let Some(codes) = Codes::of(reading.desk, log, got) else {
         return Err(Refusal::NoRoom);
     };
-    let mut found = [0; MOST_LINES];
-    writer::write(out, outcome(reading, codes, &mut found))
+    end(reading, codes, out)
 }
 
 // The answer to a whole input.
