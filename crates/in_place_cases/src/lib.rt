@@ -56,7 +56,7 @@ fn another_code<W: Word>(apart: [u64; 2]) -> Result<bool, Refusal> {
     Ok(holds(out, [apart[0], apart[1], 0], 0, Some(1)))
 }
 
-// A sketch whose second place is used though its threshold is 1 is refused as not well formed, and stays as it was.
+// A sketch whose second place is used though its threshold is 1 is refused by 12, and in place as not well formed, and stays as it was.
 #[tactic(auto, using(power_sum::proofs::Sizes::sketch_fits))]
 fn refused<W: Word>() -> Result<bool, Refusal> {
     let one = PowerSumQuack::<W>::new(2)?.insert_once(code(10))?;
@@ -64,9 +64,12 @@ fn refused<W: Word>() -> Result<bool, Refusal> {
         threshold: 1,
         ..one
     };
+    let once = lent
+        .insert_once(code(7))
+        .is_err_and(|refusal| refusal.number() == 12);
     let again = lent.insert_in_place(code(7));
     let unchanged = lent.threshold == 1 && holds(lent, [10, 100, 0], 1, Some(10));
-    Ok(again == Err(Refusal::NotWellFormed) && unchanged)
+    Ok(once && again == Err(Refusal::NotWellFormed) && unchanged)
 }
 
 // How many cases there are, and how many of them come out otherwise than they should.
