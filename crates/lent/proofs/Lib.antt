@@ -1,4 +1,4 @@
--- What the proofs of lent slices and of lent sketches rest on, a file for each matter.
+-- What the proofs of lent slices rest on, a file for each matter.
 pub mod Refusals
 pub mod Determined
 pub mod Wrong
