@@ -41,12 +41,12 @@ fn find_head<W: Layout>(words: &[W]) -> Option<Head<W>>
     if words.len() < W::HEAD {
         return None;
     }
-    let count = W::count_in(words);
-    let last = last_said(words[W::HEAD - 2], words[W::HEAD - 1])?;
     let threshold = words[0].number() as usize;
     if threshold < 1 || PLACES < threshold {
         return None;
     }
+    let last = last_said(words[W::HEAD - 2], words[W::HEAD - 1])?;
+    let count = W::count_in(words);
     let end = W::HEAD + threshold;
     if words.len() < end || !slices::all_below(&words[W::HEAD..end]) {
         return None;
