@@ -30,13 +30,13 @@ pub record Passed (T : RattleType) : Type 2 where
   pub field : field.Passed T
   pub layout_code : Dict
 
--- What a call on words of 16 bits is passed: so there is something to pass.
+-- What a call on words of 16 bits is passed.
 pub passed16 : Passed u16
-passed16 = record { field = field.passed16; layout_code = field.passed16.word_code }
+passed16 = record { field = field.passed16; layout_code = narrow.dict }
 
 -- On words of 32 bits.
 pub passed32 : Passed u32
-passed32 = record { field = field.passed32; layout_code = field.passed32.word_code }
+passed32 = record { field = field.passed32; layout_code = wide.dict }
 
 -- What a generic contract promises where a Layout block, a Word block and the rest are passed: a fact of the lifetimes, the arguments, the result and
 -- the arguments at the exit.
